@@ -1,0 +1,7 @@
+pub mod BelowFacts
+pub mod RowFacts
+pub mod Containment
+pub mod Progressions
+pub mod LimitFacts
+pub mod LastMove
+pub mod SealedModel

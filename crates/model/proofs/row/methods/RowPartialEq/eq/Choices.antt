@@ -1,0 +1,7 @@
+use mathlib.Core.Path.{_≡_}
+use Prim.Native.Nat.{ℕ, _<_}
+use Rattle.model.specs.Rows.{at}
+use Rattle.model.proofs.row.methods.RowPartialEq.eq.Given as given
+
+abbrev pub Inv-loop-variable : given.InvT-loop-variable
+Inv-loop-variable l = (k : ℕ) → k < l .variable → at (l .self) k ≡ at (l .other) k

@@ -1,0 +1,11 @@
+pub mod Below
+pub mod Rows
+pub mod RowLaws
+pub mod Moves
+pub mod Limits
+pub mod Records
+pub mod Plans
+pub mod MoveLaws
+pub mod Tables
+pub mod Writing
+pub mod Drafts

@@ -1,0 +1,26 @@
+//! An entry is written into a row of the model: a condition, an effect, a part of the start or of the goal.
+ghost use mathlib.Core.Path.{_≡_};
+ghost use Rattle.model.specs.Writing.{entry-answer, entered};
+use crate::row::Row;
+use crate::variable::Variable;
+use refusal::Refusal;
+
+/// Enters the value where the variable is one of these, the value is below its size, and the row leaves it open.
+pub(crate) fn enter(variables: &[Variable], row: &mut Row, variable: usize, value: u8) -> Result<(), Refusal>
+    ensures answer { λ r. ⌜ r ≡ entry-answer (now (variables .entry)) (now (row .entry)) variable value ⌝ }
+    ensures after { λ _. ⌜ now (row .exit) ≡ entered (now (variables .entry)) (now (row .entry)) variable value ⌝ }
+{
+    if variable >= variables.len() {
+        return Err(Refusal::NoSuchVariable);
+    }
+    if value >= variables[variable].size {
+        return Err(Refusal::ValueTooLarge);
+    }
+    match row.entry(variable) {
+        Some(_) => Err(Refusal::EntryTwice),
+        None => {
+            row.set(variable, value);
+            Ok(())
+        }
+    }
+}

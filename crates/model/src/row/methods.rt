@@ -1,0 +1,79 @@
+//! Rows are made, read, changed and compared.
+ghost use mathlib.Core.Path.{_≡_};
+ghost use Rattle.std.specs.declared.option.Option.the-variants.{Some};
+ghost use Rattle.std.specs.Orderings.{Decides};
+ghost use Rattle.model.specs.Rows.{at, open-row, with-entry, contained, disagree, same-row};
+ghost use Rattle.model.specs.RowLaws.{Containment-is-reflexive, Containment-is-transitive};
+use super::Row;
+
+impl Row {
+    /// The row that gives nothing.
+    pub fn open() -> Row
+        ensures { λ r. ⌜ r ≡ open-row ⌝ }
+    {
+        Row { entries: [None; 32] }
+    }
+
+    /// The entry of a variable: its value, or none where it is open or there is no such variable.
+    pub fn entry(&self, variable: usize) -> Option<u8>
+        ensures { λ r. ⌜ r ≡ at (now (self .entry)) variable ⌝ }
+    {
+        if variable < 32 { self.entries[variable] } else { None }
+    }
+
+    /// Gives the variable the value. From the 33rd variable on nothing changes.
+    pub fn set(&mut self, variable: usize, value: u8)
+        ensures { λ _. ⌜ now (self .exit) ≡ with-entry (now (self .entry)) variable (Some value) ⌝ }
+    {
+        if variable < 32 {
+            self.entries[variable] = Some(value);
+        }
+    }
+
+    /// Whether the other row has every entry that this one gives.
+    pub fn contained_in(&self, other: &Row) -> bool
+        ensures answer { λ r. ⌜ r ≡ contained (now (self .entry)) (now (other .entry)) ⌝ }
+        ensures reflexive { λ _. ⌜ Containment-is-reflexive ⌝ }
+        ensures transitive { λ _. ⌜ Containment-is-transitive ⌝ }
+    {
+        for variable in 0..32 {
+            match (self.entry(variable), other.entry(variable)) {
+                (Some(value), Some(found)) => {
+                    if found != value {
+                        return false;
+                    }
+                }
+                (Some(_), None) => return false,
+                (None, _) => {}
+            }
+        }
+        true
+    }
+
+    /// Whether both rows give some variable, with different values.
+    pub fn disagrees(&self, other: &Row) -> bool
+        ensures { λ r. ⌜ r ≡ disagree (now (self .entry)) (now (other .entry)) ⌝ }
+    {
+        for variable in 0..32 {
+            if let (Some(mine), Some(theirs)) = (self.entry(variable), other.entry(variable)) {
+                if mine != theirs {
+                    return true;
+                }
+            }
+        }
+        false
+    }
+}
+
+pub impl PartialEq<Row> for Row as RowPartialEq {
+    ghost equals = { λ x y r. (r ≡ same-row x y) × Decides r (x ≡ y) };
+
+    fn eq(&self, other: &Row) -> bool {
+        for variable in 0..32 {
+            if self.entry(variable) != other.entry(variable) {
+                return false;
+            }
+        }
+        true
+    }
+}

@@ -1,0 +1,48 @@
+//! What a sealed model answers of itself.
+ghost use mathlib.Core.Path.{_≡_};
+ghost use Rattle.model.specs.Drafts.{recorded};
+ghost use Rattle.model.specs.Limits.{size-of};
+use crate::moves::Move;
+use crate::row::Row;
+use crate::variable::Variable;
+use super::Model;
+
+impl Model {
+    /// Its variables, by number.
+    pub fn variables(&self) -> &[Variable]
+        ensures { λ r. ⌜ now r ≡ recorded (now (self .entry)) .variables ⌝ }
+    {
+        self.variables.as_slice()
+    }
+
+    /// The size of a variable, or none where the model has no such variable.
+    pub fn size(&self, variable: usize) -> Option<u8>
+        ensures { λ r. ⌜ r ≡ size-of (recorded (now (self .entry)) .variables) variable ⌝ }
+    {
+        match self.variables.get(variable) {
+            Some(found) => Some(found.size),
+            None => None,
+        }
+    }
+
+    /// Its moves, by number.
+    pub fn moves(&self) -> &[Move]
+        ensures { λ r. ⌜ now r ≡ recorded (now (self .entry)) .moves ⌝ }
+    {
+        self.moves.as_slice()
+    }
+
+    /// The state from which it starts.
+    pub fn start(&self) -> &Row
+        ensures { λ r. ⌜ now r ≡ recorded (now (self .entry)) .start ⌝ }
+    {
+        &self.start
+    }
+
+    /// The row that a state has to contain for a plan to end there.
+    pub fn goal(&self) -> &Row
+        ensures { λ r. ⌜ now r ≡ recorded (now (self .entry)) .goal ⌝ }
+    {
+        &self.goal
+    }
+}
