@@ -1,0 +1,3 @@
+pub mod FirstCommand
+pub mod CommandList
+pub mod WrittenOut
