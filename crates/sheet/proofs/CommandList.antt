@@ -1,5 +1,5 @@
 -- The commands of a sheet, one step at a time.
-use mathlib.Core.Path.{_≡_, refl, sym, ap, _∙_}
+use mathlib.Core.Path.{_≡_, refl, sym, ap, subst, _∙_}
 use mathlib.Core.Bool.{Bool, true, false, cond}
 use mathlib.Core.List.{List, [], _∷_}
 use mathlib.Core.Logic.{_⊎_, ⊎-elim}
@@ -11,6 +11,7 @@ use borrow.Author.Tests.{le-leb, leb-true, leb-false, lt-ltb, le-ltb}
 use Rattle.std.specs.declared.option.Option.{Option}
 use Rattle.std.specs.declared.option.Option.the-variants.{Some, None}
 use Rattle.std.proofs.shelf.Lists.{drop-drop, drop-all}
+use Rattle.std.proofs.shelf.Tests.{cases-lt}
 use Rattle.sheet.specs.Reading.{Told, width, reading, reading-of, is-fault}
 use Rattle.sheet.specs.Commands.{Item, item-at, item-found, listed, commands-from}
 
@@ -121,3 +122,23 @@ module _ (sheet : List ℕ) (p : ℕ) (r : Told × List ℕ) (is : r ≡ reading
       ap (λ (x : Told × List ℕ). Some (record { place = p; said = x .0; next = length sheet - length (x .1) })) is
       ∙ ap (λ n. Some (record { place = p; said = reading (drop p sheet) .0; next = n })) whole
       ∙ ap (λ q. cond {A = Option Item} q (Some (item-at p (drop p sheet))) None) (sym (lt-ltb _ _ within))
+
+-- and what that says of the commands from there on
+pub commands-none : (sheet : List ℕ) (p : ℕ) → None ≡ item-found sheet p → commands-from sheet p ≡ []
+commands-none sheet p is = ⊎-elim
+    (λ (within : p < length sheet). let z : _≡_ {A = ℕ} 0 1 = cc (is, ap (λ q. cond {A = Option Item} q (Some (item-at p (drop p sheet))) None) (lt-ltb _ _ within)) in absurd (omega arith))
+    (λ (past : length sheet ≤ p). commands-past sheet p past)
+    (cases-lt p (length sheet))
+
+module _ (sheet : List ℕ) (p : ℕ) (i : Item) (is : Some i ≡ item-found sheet p) where
+  found-is : (p < length sheet) × (i ≡ item-at p (drop p sheet))
+  found-is = ⊎-elim
+      (λ (within : p < length sheet). (within, cc (is, ap (λ q. cond {A = Option Item} q (Some (item-at p (drop p sheet))) None) (lt-ltb _ _ within))))
+      (λ (past : length sheet ≤ p). let z : _≡_ {A = ℕ} 0 1 = cc (is, ap (λ q. cond {A = Option Item} q (Some (item-at p (drop p sheet))) None) (le-ltb _ _ past)) in absurd (omega arith))
+      (cases-lt p (length sheet))
+
+  pub commands-some : commands-from sheet p ≡ i ∷ cond (is-fault (i .said)) [] (commands-from sheet (i .next))
+  commands-some = commands-at sheet p (found-is .0) ∙ ap (λ x. x ∷ cond (is-fault (x .said)) [] (commands-from sheet (x .next))) (sym (found-is .1))
+
+  pub found-moves-on : is-fault (i .said) ≡ false → (p < i .next) × (i .next ≤ length sheet)
+  found-moves-on more = subst (λ x. (p < x .next) × (x .next ≤ length sheet)) (sym (found-is .1)) (moves-on sheet p (found-is .0) (ap (λ x. is-fault (x .said)) (sym (found-is .1)) ∙ more))
