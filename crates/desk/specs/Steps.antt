@@ -11,7 +11,7 @@ use Rattle.refusal.specs.declared.Refusal.the-variants.{SheetEnds, UnknownComma
 use Rattle.sheet.specs.Reading.{Told}
 use Rattle.model.specs.Records.{ModelRecord}
 use Rattle.model.specs.Tables.{Answer}
-use Rattle.model.specs.Writing.{variable-answer, name-variable, move-answer, begin-move, condition-answer, enter-condition, effect-answer, enter-effect, entry-answer, enter-start, enter-goal, seal-answer}
+use Rattle.model.specs.Writing.{variable-answer, name-variable, move-answer, begin-move, condition-answer, enter-condition, effect-answer, enter-effect, start-answer, enter-start, goal-answer, enter-goal, seal-answer}
 
 -- what the model in hand takes next: variables; moves with their conditions and effects; or its start and goal
 pub data Phase : Type 0 where
@@ -55,10 +55,10 @@ effect-step ending d i v = refuses OutOfTurn
 
 -- start and goal stand mixed after them
 abbrev pub start-step : ModelRecord → ℕ → ℕ → Turned
-start-step d i v = answered (entry-answer (d .variables) (d .start) i v) ending (enter-start d i v)
+start-step d i v = answered (start-answer d i v) ending (enter-start d i v)
 
 abbrev pub goal-step : ModelRecord → ℕ → ℕ → Turned
-goal-step d i v = answered (entry-answer (d .variables) (d .goal) i v) ending (enter-goal d i v)
+goal-step d i v = answered (goal-answer d i v) ending (enter-goal d i v)
 
 -- then the model is sealed
 abbrev pub seal-step : ModelRecord → Turned

@@ -1,6 +1,6 @@
 -- Containment is an order, and rows with the same entries are equal.
-use mathlib.Core.Path.{_≡_, refl, ap}
-use mathlib.Core.Bool.{true}
+use mathlib.Core.Path.{_≡_, refl, ap, subst, sym}
+use mathlib.Core.Bool.{Bool, true}
 use Prim.Native.Nat.{ℕ, _<_}
 use native.Mathlib.Omega.{arith}
 use Rattle.std.proofs.shelf.Tests.{eq-eqb, eqb-true, false≢true}
@@ -38,10 +38,14 @@ same-entry-decides (Some v) None = ((λ h. absurd (false≢true h)), λ e. let z
 same-entry-decides (Some v) (Some w) = ((λ h. ap (λ n. Some n) (eqb-true v w h)), λ e. eq-eqb v w (cc))
 
 -- rows have the same entries exactly if they are equal
-pub same-row-decides : (r t : Row) → Decides (same-row r t) (r ≡ t)
+same-row-decides : (r t : Row) → Decides (same-row r t) (r ≡ t)
 same-row-decides r t =
     ( (λ h. row-ext r t (λ i l. same-entry-decides (at r i) (at t i) .0 (all-below-decides (λ k. same-entry (at r k) (at t k)) 32 .0 h i l))),
       λ e. all-below-decides (λ k. same-entry (at r k) (at t k)) 32 .1 (λ i l. same-entry-decides (at r i) (at t i) .1 (ap (λ x. at x i) e)) )
+
+-- an answer that is the test says whether the rows are equal
+pub told-same : {answer : Bool} (r t : Row) → answer ≡ same-row r t → (answer ≡ same-row r t) × Decides answer (r ≡ t)
+told-same r t is = (is, subst (λ q. Decides q (r ≡ t)) (sym is) (same-row-decides r t))
 
 pub contained-reflexive : Containment-is-reflexive
 unfolding Containment-is-reflexive

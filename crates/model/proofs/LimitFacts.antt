@@ -17,8 +17,10 @@ use Rattle.model.specs.declared.moves.Move.{Move}
 use Rattle.model.specs.declared.variable.Variable.{Variable}
 use Rattle.model.specs.Rows.{at, open-row, with-entry}
 use Rattle.model.specs.Limits.{every, size-at, entry-fits, row-fits, move-fits, moves-fit}
-use Rattle.model.specs.Tables.{begun, begin-answer, with-begun, last-begun, with-last, with-conditions, with-effects}
-use Rattle.model.specs.Writing.{entry-answer, entered}
+use Rattle.model.specs.Tables.{begun, begin-answer, with-begun, last-begun, with-last}
+use Rattle.model.specs.declared.in_hand.Part.{Part}
+use Rattle.model.specs.declared.in_hand.Part.the-variants.{Conditions, Effects}
+use Rattle.model.specs.Writing.{entry-answer, entered, move-entered}
 use Rattle.model.proofs.BelowFacts.{all-below-decides}
 
 -- a test that holds of every element of a list
@@ -81,13 +83,14 @@ module _ (vs : List Variable) where
   last-fits : (ms : List Move) → moves-fit vs ms ≡ true → move-fits vs (last-begun ms) ≡ true
   last-fits ms h = every-getD (move-fits vs) ms (length ms - 1) (begun []) h (begun-fits [])
 
-  module _ (ms : List Move) (i v : ℕ) (few : length vs ≤ 32) (fit : moves-fit vs ms ≡ true) where
-    pub condition-fits : moves-fit vs (with-last ms (with-conditions (last-begun ms) (entered vs (last-begun ms .conditions) i v))) ≡ true
-    condition-fits =
-        let rows = and-parts (row-fits vs (last-begun ms .conditions)) (row-fits vs (last-begun ms .effects)) (last-fits ms fit) in
-        every-set (move-fits vs) ms (length ms - 1) _ fit (and-from _ _ (entered-fits (last-begun ms .conditions) i v few (rows .0)) (rows .1))
+  -- a move that fits, with an entry in one of its rows
+  move-entered-fits : (part : Part) (m : Move) (i v : ℕ) → length vs ≤ 32 → move-fits vs m ≡ true → move-fits vs (move-entered part vs m i v) ≡ true
+  move-entered-fits Conditions m i v few fits =
+      let rows = and-parts (row-fits vs (m .conditions)) (row-fits vs (m .effects)) fits in
+      and-from _ _ (entered-fits (m .conditions) i v few (rows .0)) (rows .1)
+  move-entered-fits Effects m i v few fits =
+      let rows = and-parts (row-fits vs (m .conditions)) (row-fits vs (m .effects)) fits in
+      and-from _ _ (rows .0) (entered-fits (m .effects) i v few (rows .1))
 
-    pub effect-fits : moves-fit vs (with-last ms (with-effects (last-begun ms) (entered vs (last-begun ms .effects) i v))) ≡ true
-    effect-fits =
-        let rows = and-parts (row-fits vs (last-begun ms .conditions)) (row-fits vs (last-begun ms .effects)) (last-fits ms fit) in
-        every-set (move-fits vs) ms (length ms - 1) _ fit (and-from _ _ (rows .0) (entered-fits (last-begun ms .effects) i v few (rows .1)))
+  pub entered-in-last-fits : (part : Part) (ms : List Move) (i v : ℕ) → length vs ≤ 32 → moves-fit vs ms ≡ true → moves-fit vs (with-last ms (move-entered part vs (last-begun ms) i v)) ≡ true
+  entered-in-last-fits part ms i v few fit = every-set (move-fits vs) ms (length ms - 1) _ fit (move-entered-fits part (last-begun ms) i v few (last-fits ms fit))

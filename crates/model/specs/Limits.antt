@@ -1,11 +1,10 @@
 -- The limits of a model: at most 32 variables of size 1 to 16, at most 128 moves, and values below their variable's size.
-use mathlib.Core.Bool.{Bool, true, _&&_}
+use mathlib.Core.Bool.{Bool, true, cond, _&&_}
 use mathlib.Core.List.{List, [], _∷_}
 use Prim.Native.Nat.{ℕ}
 use lib.Dec.{ltb, leb}
 use lib.ListN.{length, getD}
-use Rattle.std.specs.Options.{isSome, mapped}
-use Rattle.std.specs.Runs.{nth}
+use Rattle.std.specs.Options.{isSome}
 use Rattle.std.specs.declared.option.Option.{Option}
 use Rattle.std.specs.declared.option.Option.the-variants.{Some, None}
 use Rattle.model.specs.declared.row.Row.{Row}
@@ -28,7 +27,7 @@ size-at vs i = getD vs i no-variable .size
 
 -- the size of the variable i, where there is one
 abbrev pub size-of : List Variable → ℕ → Option ℕ
-size-of vs i = mapped (λ v. v .size) (nth vs i)
+size-of vs i = cond (ltb i (length vs)) (Some (size-at vs i)) None
 
 abbrev pub size-fits : ℕ → Bool
 size-fits n = ltb 0 n && leb n 16

@@ -20,9 +20,13 @@ at row i = getD (row .entries) i None
 unfoldable pub row-of : (ℕ → Option ℕ) → Row
 row-of f = record { entries = map f (counting 0 32); full = length-map-counting f 0 32 }
 
+-- the row with the entry e everywhere
+abbrev pub filled-row : Option ℕ → Row
+filled-row e = record { entries = replicate 32 e; full = length-replicate {A = Option ℕ} 32 e }
+
 -- the row that gives nothing
 abbrev pub open-row : Row
-open-row = record { entries = replicate 32 None; full = length-replicate {A = Option ℕ} 32 None }
+open-row = filled-row None
 
 -- the row with the entry e of the variable i
 abbrev pub with-entry : Row → ℕ → Option ℕ → Row

@@ -10,7 +10,6 @@ use Rattle.std.specs.declared.result.Result.{Result}
 use Rattle.std.specs.declared.result.Result.the-variants.{Ok, Err}
 use Rattle.refusal.specs.declared.Refusal.{Refusal}
 use Rattle.refusal.specs.declared.Refusal.the-variants.{TooMany}
-use Rattle.model.specs.declared.row.Row.{Row}
 use Rattle.model.specs.declared.moves.Move.{Move}
 use Rattle.model.specs.declared.table.MoveTable.{MoveTable}
 use Rattle.model.specs.Rows.{open-row}
@@ -40,9 +39,3 @@ last-begun ms = getD ms (length ms - 1) (begun [])
 -- the moves, with m in the place of the one begun last
 abbrev pub with-last : List Move → Move → List Move
 with-last ms m = set ms (length ms - 1) m
-
-abbrev pub with-conditions : Move → Row → Move
-with-conditions m row = record { name = m .name; conditions = row; effects = m .effects }
-
-abbrev pub with-effects : Move → Row → Move
-with-effects m row = record { name = m .name; conditions = m .conditions; effects = row }

@@ -13,9 +13,13 @@ use Rattle.refusal.specs.declared.Refusal.the-variants.{TooMany, SizeOutOfRange
 use Rattle.model.specs.declared.row.Row.{Row}
 use Rattle.model.specs.declared.moves.Move.{Move}
 use Rattle.model.specs.declared.variable.Variable.{Variable}
+use Rattle.model.specs.declared.in_hand.Part.{Part}
+use Rattle.model.specs.declared.in_hand.Part.the-variants.{Conditions, Effects}
+use Rattle.model.specs.declared.in_hand.End.{End}
+use Rattle.model.specs.declared.in_hand.End.the-variants.{Start, Goal}
 use Rattle.model.specs.Rows.{at, with-entry}
 use Rattle.model.specs.Limits.{size-at, size-fits, complete}
-use Rattle.model.specs.Tables.{Answer, begin-answer, with-begun, last-begun, with-last, with-conditions, with-effects}
+use Rattle.model.specs.Tables.{Answer, begin-answer, with-begun, last-begun, with-last}
 use Rattle.model.specs.Records.{ModelRecord, record-of}
 
 -- a variable is named where there are less than 32, and its size is from 1 to 16
@@ -43,23 +47,62 @@ abbrev pub entered : List Variable → Row → ℕ → ℕ → Row
 entered vs row i v = cond (isOk (entry-answer vs row i v)) (with-entry row i (Some v)) row
 
 -- conditions and effects are entered in the move begun last
+abbrev pub part-of : Part → Move → Row
+part-of Conditions m = m .conditions
+part-of Effects m = m .effects
+
+abbrev pub with-part : Part → Move → Row → Move
+with-part Conditions m row = record { name = m .name; conditions = row; effects = m .effects }
+with-part Effects m row = record { name = m .name; conditions = m .conditions; effects = row }
+
+abbrev pub part-answer : Part → ModelRecord → ℕ → ℕ → Answer
+part-answer part d i v = entry-answer (d .variables) (part-of part (last-begun (d .moves))) i v
+
+-- the move m with an entry of the variable i in one of its rows
+abbrev pub move-entered : Part → List Variable → Move → ℕ → ℕ → Move
+move-entered part vs m i v = with-part part m (entered vs (part-of part m) i v)
+
+abbrev pub enter-part : Part → ModelRecord → ℕ → ℕ → ModelRecord
+enter-part part d i v = with-moves d (with-last (d .moves) (move-entered part (d .variables) (last-begun (d .moves)) i v))
+
 abbrev pub condition-answer : ModelRecord → ℕ → ℕ → Answer
-condition-answer d i v = entry-answer (d .variables) (last-begun (d .moves) .conditions) i v
+condition-answer = part-answer Conditions
 
 abbrev pub enter-condition : ModelRecord → ℕ → ℕ → ModelRecord
-enter-condition d i v = let m = last-begun (d .moves) in with-moves d (with-last (d .moves) (with-conditions m (entered (d .variables) (m .conditions) i v)))
+enter-condition = enter-part Conditions
 
 abbrev pub effect-answer : ModelRecord → ℕ → ℕ → Answer
-effect-answer d i v = entry-answer (d .variables) (last-begun (d .moves) .effects) i v
+effect-answer = part-answer Effects
 
 abbrev pub enter-effect : ModelRecord → ℕ → ℕ → ModelRecord
-enter-effect d i v = let m = last-begun (d .moves) in with-moves d (with-last (d .moves) (with-effects m (entered (d .variables) (m .effects) i v)))
+enter-effect = enter-part Effects
+
+-- entries of the start and of the goal
+abbrev pub end-of : End → ModelRecord → Row
+end-of Start d = d .start
+end-of Goal d = d .goal
+
+abbrev pub with-end : End → ModelRecord → Row → ModelRecord
+with-end Start d row = record-of (d .variables) (d .moves) row (d .goal)
+with-end Goal d row = record-of (d .variables) (d .moves) (d .start) row
+
+abbrev pub end-answer : End → ModelRecord → ℕ → ℕ → Answer
+end-answer end d i v = entry-answer (d .variables) (end-of end d) i v
+
+abbrev pub enter-end : End → ModelRecord → ℕ → ℕ → ModelRecord
+enter-end end d i v = with-end end d (entered (d .variables) (end-of end d) i v)
+
+abbrev pub start-answer : ModelRecord → ℕ → ℕ → Answer
+start-answer = end-answer Start
 
 abbrev pub enter-start : ModelRecord → ℕ → ℕ → ModelRecord
-enter-start d i v = record-of (d .variables) (d .moves) (entered (d .variables) (d .start) i v) (d .goal)
+enter-start = enter-end Start
+
+abbrev pub goal-answer : ModelRecord → ℕ → ℕ → Answer
+goal-answer = end-answer Goal
 
 abbrev pub enter-goal : ModelRecord → ℕ → ℕ → ModelRecord
-enter-goal d i v = record-of (d .variables) (d .moves) (d .start) (entered (d .variables) (d .goal) i v)
+enter-goal = enter-end Goal
 
 -- a model is sealed where its start leaves no variable open
 abbrev pub seal-answer : ModelRecord → Answer

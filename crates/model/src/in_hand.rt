@@ -16,6 +16,20 @@ pub mod naming;
 pub mod writing_ends;
 pub mod writing_moves;
 
+/// One of the two rows of a move.
+#[derive(Clone, Copy)]
+pub(crate) enum Part {
+    Conditions,
+    Effects,
+}
+
+/// One of the two ends of a plan.
+#[derive(Clone, Copy)]
+pub(crate) enum End {
+    Start,
+    Goal,
+}
+
 /// A model whose variables are being named. All memory that the model can need is reserved.
 #[derive(Drop)]
 pub struct NamingVariables {

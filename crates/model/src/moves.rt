@@ -15,8 +15,7 @@ pub struct Move {
 impl Move {
     /// Whether the move's conditions do not disagree with the row.
     pub fn applicable(&self, row: &Row) -> bool
-        ensures answer { λ r. ⌜ r ≡ applicable (now (self .entry)) (now (row .entry)) ⌝ }
-        ensures kept { λ _. ⌜ Smaller-row-keeps-moves-applicable ⌝ }
+        ensures { λ r. ⌜ r ≡ applicable (now (self .entry)) (now (row .entry)) ⌝ }
     {
         !self.conditions.disagrees(row)
     }
@@ -24,6 +23,7 @@ impl Move {
     /// What is known of a position after the move, if the row was known of it before.
     pub fn progression(&self, row: &Row) -> Row
         ensures answer { λ r. ⌜ r ≡ progression (now (self .entry)) (now (row .entry)) ⌝ }
+        ensures applicable { λ _. ⌜ Smaller-row-keeps-moves-applicable ⌝ }
         ensures monotone { λ _. ⌜ Smaller-row-has-smaller-progression ⌝ }
         ensures successor { λ _. ⌜ Progression-of-a-state-is-its-successor ⌝ }
     {

@@ -1,5 +1,7 @@
 //! The sheet: commands of one byte with operands of fixed widths.
 ghost use mathlib.Core.Path.{_≡_};
+ghost use lib.Dec.{leb};
+ghost use lib.ListN.{length};
 ghost use Rattle.std.specs.Options.{mapped};
 ghost use Rattle.sheet.specs.Reading.{told, reading};
 ghost use Rattle.sheet.specs.Commands.{item-of, item-found};
@@ -98,10 +100,17 @@ pub fn command_at<'a>(sheet: &'a [u8], place: usize) -> Option<Placed<'a>>
     ensures no_byte_lost { λ _. ⌜ Reading-loses-no-byte ⌝ }
     ensures written_reads_back { λ _. ⌜ Commands-written-out-read-back ⌝ }
 {
-    if place >= sheet.len() {
+    if ended(sheet, place) {
         return None;
     }
     let (command, rest) = read(&sheet[place..]);
     let next = sheet.len() - rest.len();
     Some(Placed { command, place, next })
+}
+
+/// Whether the sheet has no byte at the place.
+fn ended(sheet: &[u8], place: usize) -> bool
+    ensures { λ r. ⌜ r ≡ leb (length (now (sheet .entry))) place ⌝ }
+{
+    place >= sheet.len()
 }

@@ -1,9 +1,11 @@
 //! An entry is written into a row of the model: a condition, an effect, a part of the start or of the goal.
 ghost use mathlib.Core.Path.{_≡_};
-ghost use Rattle.model.specs.Writing.{entry-answer, entered};
+ghost use Rattle.model.specs.Writing.{entry-answer, entered, part-of, move-entered};
+use crate::moves::Move;
 use crate::row::Row;
 use crate::variable::Variable;
 use refusal::Refusal;
+use super::Part;
 
 /// Enters the value where the variable is one of these, the value is below its size, and the row leaves it open.
 pub(crate) fn enter(variables: &[Variable], row: &mut Row, variable: usize, value: u8) -> Result<(), Refusal>
@@ -22,5 +24,16 @@ pub(crate) fn enter(variables: &[Variable], row: &mut Row, variable: usize, valu
             row.set(variable, value);
             Ok(())
         }
+    }
+}
+
+/// Enters the value in one of the two rows of a move.
+pub(crate) fn enter_in_move(variables: &[Variable], written: &mut Move, part: Part, variable: usize, value: u8) -> Result<(), Refusal>
+    ensures answer { λ r. ⌜ r ≡ entry-answer (now (variables .entry)) (part-of part (now (written .entry))) variable value ⌝ }
+    ensures after { λ _. ⌜ now (written .exit) ≡ move-entered part (now (variables .entry)) (now (written .entry)) variable value ⌝ }
+{
+    match part {
+        Part::Conditions => enter(variables, &mut written.conditions, variable, value),
+        Part::Effects => enter(variables, &mut written.effects, variable, value),
     }
 }

@@ -52,11 +52,7 @@ impl NamingVariables {
     pub fn into_ends(self) -> WritingEnds
         ensures { λ r. ⌜ ended r ≡ named self ⌝ }
     {
-        WritingEnds {
-            variables: self.variables,
-            moves: self.moves,
-            start: Row::open(),
-            goal: Row::open(),
-        }
+        let NamingVariables { variables, moves } = self;
+        WritingEnds { variables, moves, start: Row::open(), goal: Row::open() }
     }
 }

@@ -3,27 +3,38 @@ ghost use mathlib.Core.Path.{_≡_};
 ghost use Rattle.std.specs.Vec.{made, refused};
 ghost use Rattle.model.specs.Drafts.{ended, recorded, sealed-or-back};
 ghost use Rattle.model.specs.Records.{Sealed};
-ghost use Rattle.model.specs.Writing.{entry-answer, enter-start, enter-goal, seal-answer, sealing};
+ghost use Rattle.model.specs.Writing.{end-answer, enter-end, start-answer, enter-start, goal-answer, enter-goal, seal-answer, sealing};
 use crate::sealed::Model;
 use refusal::Refusal;
+use super::End;
 use super::entering::enter;
 use super::WritingEnds;
 
 impl WritingEnds {
     /// Enters a value of the start.
     pub fn start(&mut self, variable: usize, value: u8) -> Result<(), Refusal>
-        ensures answer { λ r. ⌜ r ≡ entry-answer (ended (now (self .entry)) .variables) (ended (now (self .entry)) .start) variable value ⌝ }
+        ensures answer { λ r. ⌜ r ≡ start-answer (ended (now (self .entry))) variable value ⌝ }
         ensures after { λ _. ⌜ ended (now (self .exit)) ≡ enter-start (ended (now (self .entry))) variable value ⌝ }
     {
-        enter(self.variables.as_slice(), &mut self.start, variable, value)
+        self.enter_end(End::Start, variable, value)
     }
 
     /// Enters a value of the goal.
     pub fn goal(&mut self, variable: usize, value: u8) -> Result<(), Refusal>
-        ensures answer { λ r. ⌜ r ≡ entry-answer (ended (now (self .entry)) .variables) (ended (now (self .entry)) .goal) variable value ⌝ }
+        ensures answer { λ r. ⌜ r ≡ goal-answer (ended (now (self .entry))) variable value ⌝ }
         ensures after { λ _. ⌜ ended (now (self .exit)) ≡ enter-goal (ended (now (self .entry))) variable value ⌝ }
     {
-        enter(self.variables.as_slice(), &mut self.goal, variable, value)
+        self.enter_end(End::Goal, variable, value)
+    }
+
+    fn enter_end(&mut self, end: End, variable: usize, value: u8) -> Result<(), Refusal>
+        ensures answer { λ r. ⌜ r ≡ end-answer end (ended (now (self .entry))) variable value ⌝ }
+        ensures after { λ _. ⌜ ended (now (self .exit)) ≡ enter-end end (ended (now (self .entry))) variable value ⌝ }
+    {
+        match end {
+            End::Start => enter(self.variables.as_slice(), &mut self.start, variable, value),
+            End::Goal => enter(self.variables.as_slice(), &mut self.goal, variable, value),
+        }
     }
 
     /// Whether the model may be sealed: its start leaves no variable open.

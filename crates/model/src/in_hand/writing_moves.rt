@@ -1,10 +1,11 @@
 //! The second step of a model in hand: writing its moves.
 ghost use mathlib.Core.Path.{_≡_};
 ghost use Rattle.model.specs.Drafts.{written, ended};
-ghost use Rattle.model.specs.Writing.{move-answer, condition-answer, effect-answer, begin-move, enter-condition, enter-effect};
+ghost use Rattle.model.specs.Writing.{move-answer, begin-move, part-answer, enter-part, condition-answer, enter-condition, effect-answer, enter-effect};
 use crate::row::Row;
 use refusal::Refusal;
-use super::entering::enter;
+use super::entering::enter_in_move;
+use super::Part;
 use super::WritingEnds;
 use super::WritingMoves;
 
@@ -22,10 +23,7 @@ impl WritingMoves {
         ensures answer { λ r. ⌜ r ≡ condition-answer (written (now (self .entry))) variable value ⌝ }
         ensures after { λ _. ⌜ written (now (self .exit)) ≡ enter-condition (written (now (self .entry))) variable value ⌝ }
     {
-        match self.moves.last() {
-            Some(last) => enter(self.variables.as_slice(), &mut last.conditions, variable, value),
-            None => unreachable(),
-        }
+        self.enter_part(Part::Conditions, variable, value)
     }
 
     /// Enters an effect in the move begun last.
@@ -33,8 +31,15 @@ impl WritingMoves {
         ensures answer { λ r. ⌜ r ≡ effect-answer (written (now (self .entry))) variable value ⌝ }
         ensures after { λ _. ⌜ written (now (self .exit)) ≡ enter-effect (written (now (self .entry))) variable value ⌝ }
     {
+        self.enter_part(Part::Effects, variable, value)
+    }
+
+    fn enter_part(&mut self, part: Part, variable: usize, value: u8) -> Result<(), Refusal>
+        ensures answer { λ r. ⌜ r ≡ part-answer part (written (now (self .entry))) variable value ⌝ }
+        ensures after { λ _. ⌜ written (now (self .exit)) ≡ enter-part part (written (now (self .entry))) variable value ⌝ }
+    {
         match self.moves.last() {
-            Some(last) => enter(self.variables.as_slice(), &mut last.effects, variable, value),
+            Some(last) => enter_in_move(self.variables.as_slice(), last, part, variable, value),
             None => unreachable(),
         }
     }
@@ -43,11 +48,7 @@ impl WritingMoves {
     pub fn into_ends(self) -> WritingEnds
         ensures { λ r. ⌜ ended r ≡ written self ⌝ }
     {
-        WritingEnds {
-            variables: self.variables,
-            moves: self.moves,
-            start: Row::open(),
-            goal: Row::open(),
-        }
+        let WritingMoves { variables, moves } = self;
+        WritingEnds { variables, moves, start: Row::open(), goal: Row::open() }
     }
 }

@@ -2,7 +2,7 @@
 ghost use mathlib.Core.Path.{_≡_};
 ghost use Rattle.std.specs.declared.option.Option.the-variants.{Some};
 ghost use Rattle.std.specs.Orderings.{Decides};
-ghost use Rattle.model.specs.Rows.{at, open-row, with-entry, contained, disagree, same-row};
+ghost use Rattle.model.specs.Rows.{at, filled-row, open-row, with-entry, keeps, differ, same-entry, contained, disagree, same-row};
 ghost use Rattle.model.specs.RowLaws.{Containment-is-reflexive, Containment-is-transitive};
 use super::Row;
 
@@ -11,7 +11,14 @@ impl Row {
     pub fn open() -> Row
         ensures { λ r. ⌜ r ≡ open-row ⌝ }
     {
-        Row { entries: [None; 32] }
+        Row::filled(None)
+    }
+
+    /// The row with the same entry everywhere.
+    fn filled(entry: Option<u8>) -> Row
+        ensures { λ r. ⌜ r ≡ filled-row entry ⌝ }
+    {
+        Row { entries: [entry; 32] }
     }
 
     /// The entry of a variable: its value, or none where it is open or there is no such variable.
@@ -25,8 +32,14 @@ impl Row {
     pub fn set(&mut self, variable: usize, value: u8)
         ensures { λ _. ⌜ now (self .exit) ≡ with-entry (now (self .entry)) variable (Some value) ⌝ }
     {
+        self.put(variable, Some(value));
+    }
+
+    fn put(&mut self, variable: usize, entry: Option<u8>)
+        ensures { λ _. ⌜ now (self .exit) ≡ with-entry (now (self .entry)) variable entry ⌝ }
+    {
         if variable < 32 {
-            self.entries[variable] = Some(value);
+            self.entries[variable] = entry;
         }
     }
 
@@ -37,14 +50,8 @@ impl Row {
         ensures transitive { λ _. ⌜ Containment-is-transitive ⌝ }
     {
         for variable in 0..32 {
-            match (self.entry(variable), other.entry(variable)) {
-                (Some(value), Some(found)) => {
-                    if found != value {
-                        return false;
-                    }
-                }
-                (Some(_), None) => return false,
-                (None, _) => {}
+            if !entry_kept(self.entry(variable), other.entry(variable)) {
+                return false;
             }
         }
         true
@@ -55,10 +62,8 @@ impl Row {
         ensures { λ r. ⌜ r ≡ disagree (now (self .entry)) (now (other .entry)) ⌝ }
     {
         for variable in 0..32 {
-            if let (Some(mine), Some(theirs)) = (self.entry(variable), other.entry(variable)) {
-                if mine != theirs {
-                    return true;
-                }
+            if entries_differ(self.entry(variable), other.entry(variable)) {
+                return true;
             }
         }
         false
@@ -70,10 +75,42 @@ pub impl PartialEq<Row> for Row as RowPartialEq {
 
     fn eq(&self, other: &Row) -> bool {
         for variable in 0..32 {
-            if self.entry(variable) != other.entry(variable) {
+            if !entries_same(self.entry(variable), other.entry(variable)) {
                 return false;
             }
         }
         true
+    }
+}
+
+/// Whether the second entry is the first, if that is given.
+fn entry_kept(mine: Option<u8>, theirs: Option<u8>) -> bool
+    ensures { λ r. ⌜ r ≡ keeps mine theirs ⌝ }
+{
+    match (mine, theirs) {
+        (Some(value), Some(found)) => found == value,
+        (Some(_), None) => false,
+        (None, _) => true,
+    }
+}
+
+/// Whether both entries are given, with different values.
+fn entries_differ(mine: Option<u8>, theirs: Option<u8>) -> bool
+    ensures { λ r. ⌜ r ≡ differ mine theirs ⌝ }
+{
+    match (mine, theirs) {
+        (Some(value), Some(found)) => value != found,
+        _ => false,
+    }
+}
+
+/// Whether both entries are open, or give the same value.
+fn entries_same(mine: Option<u8>, theirs: Option<u8>) -> bool
+    ensures { λ r. ⌜ r ≡ same-entry mine theirs ⌝ }
+{
+    match (mine, theirs) {
+        (Some(value), Some(found)) => value == found,
+        (None, None) => true,
+        _ => false,
     }
 }

@@ -19,10 +19,8 @@ impl Model {
     pub fn size(&self, variable: usize) -> Option<u8>
         ensures { λ r. ⌜ r ≡ size-of (recorded (now (self .entry)) .variables) variable ⌝ }
     {
-        match self.variables.get(variable) {
-            Some(found) => Some(found.size),
-            None => None,
-        }
+        let variables = self.variables.as_slice();
+        if variable < variables.len() { Some(variables[variable].size) } else { None }
     }
 
     /// Its moves, by number.

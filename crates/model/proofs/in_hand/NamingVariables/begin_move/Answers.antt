@@ -14,5 +14,5 @@ ghost-result c =
     let ms = table-moves (self .moves) in
     ( self .few,
       (self .sized,
-      (subst (λ l. 0 < length l) (sym (c .begin .ensures .after)) (first-begun-some ms (c .args .name) (self .none)),
-      (ap (moves-fit vs) (c .begin .ensures .after) ∙ with-begun-fits vs ms (c .args .name) (every-none (move-fits vs) ms (self .none)), tt))) )
+      (subst (λ l. 0 < length l) (sym (c .begin .ensures .after)) (first-begun-some ms _ (self .none)),
+      (ap (moves-fit vs) (c .begin .ensures .after) ∙ with-begun-fits vs ms _ (every-none (move-fits vs) ms (self .none)), tt))) )

@@ -14,5 +14,5 @@ ghost-self c =
     let ms = table-moves (self .moves) in
     ( self .few,
       (self .sized,
-      (subst (λ l. 0 < length l) (sym (c .begin .ensures .after)) (with-begun-some ms (c .args .name) (self .some)),
-      (ap (moves-fit vs) (c .begin .ensures .after) ∙ with-begun-fits vs ms (c .args .name) (self .fit), tt))) )
+      (subst (λ l. 0 < length l) (sym (c .begin .ensures .after)) (with-begun-some ms _ (self .some)),
+      (ap (moves-fit vs) (c .begin .ensures .after) ∙ with-begun-fits vs ms _ (self .fit), tt))) )

@@ -1,6 +1,0 @@
-use mathlib.Core.Path.{refl}
-use Rattle.model.proofs.RowFacts.{same-entries}
-use Rattle.model.proofs.row.Row.open.Needs as need
-
-pub returns : need.returns
-returns c = same-entries _ _ refl
