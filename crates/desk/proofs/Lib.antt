@@ -1,3 +1,5 @@
 pub mod Accepting
 pub mod ModelRun
 pub mod SheetOpens
+pub mod WentOn
+pub mod StandInOrder

@@ -5,3 +5,4 @@ pub mod Choosing
 pub mod Lines
 pub mod Openings
 pub mod Told
+pub mod InOrder

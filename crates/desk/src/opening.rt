@@ -2,6 +2,7 @@
 ghost use mathlib.Core.Path.{_≡_};
 ghost use Rattle.std.specs.Vec.{made};
 ghost use Rattle.std.specs.declared.option.Option.the-variants.{Some};
+ghost use Rattle.desk.specs.InOrder.{Model-is-sealed, Commands-of-a-model-stand-in-order};
 ghost use Rattle.desk.specs.Lines.{printed};
 ghost use Rattle.desk.specs.Openings.{behind-model, model-line, stop-line, opening, opening-lines, printed-of};
 ghost use Rattle.desk.specs.Told.{opening-told};
@@ -55,6 +56,8 @@ pub enum Opening {
 pub fn open_sheet(heap: Global, sheet: &[u8]) -> Result<Opening, AllocError>
     ensures outcome { λ r. ⌜ made r (λ o. opening-told o ≡ opening (now (sheet .entry))) ⌝ }
     ensures printed { λ r. ⌜ made r (λ o. printed (opening-lines (opening-told o)) ≡ printed-of (now (sheet .entry))) ⌝ }
+    ensures sealed { λ r. ⌜ made r (λ o. Model-is-sealed (opening-told o)) ⌝ }
+    ensures in_order { λ _. ⌜ Commands-of-a-model-stand-in-order ⌝ }
 {
     if sheet.len() > LONGEST {
         let stop = Stop { refusal: Refusal::TooMany, place: LONGEST };
