@@ -10,7 +10,6 @@ use Rattle.refusal.specs.declared.Refusal.the-variants.{TooMany}
 use Rattle.sheet.specs.Commands.{commands, commands-from}
 use Rattle.model.specs.Records.{ModelRecord, blank}
 use Rattle.desk.specs.declared.opening.Stop.{Stop}
-use Rattle.desk.specs.declared.opening.DetectorChoice.{DetectorChoice}
 use Rattle.model.proofs.SealedModel.{model-sealed}
 use Rattle.desk.specs.declared.opening.Opening.{Opening}
 use Rattle.desk.specs.declared.opening.Opening.the-variants.{Unsealed, Unchosen, Ended, Orders}
@@ -18,7 +17,7 @@ use Rattle.desk.specs.InOrder.{Model-is-sealed}
 use Rattle.desk.specs.Told.{opening-told}
 use Rattle.desk.specs.Steps.{naming}
 use Rattle.desk.specs.ModelPart.{ModelEnd, sealed, model-part}
-use Rattle.desk.specs.Choosing.{detector-part}
+use Rattle.desk.specs.Choosing.{Detector, detector-part}
 use Rattle.desk.specs.Openings.{Opened, unsealed, behind-model, opened-by, opening}
 
 module _ (sheet : List ℕ) where
@@ -33,7 +32,7 @@ module _ (sheet : List ℕ) where
       ∙ ap (λ q. cond q (unsealed (record { refusal = TooMany; place = 65536 })) (opened-by (length sheet) (model-part (length sheet) naming blank (commands sheet)))) (sym (le-ltb _ _ short))
 
   -- the model d is sealed, and the detector part that follows it is r
-  pub opens-behind : length sheet ≤ 65536 → (d : ModelRecord) (next : ℕ) → sealed d (commands-from sheet next) ≡ model-part (length sheet) naming blank (commands sheet) → (r : Result (DetectorChoice × ℕ) Stop) → r ≡ detector-part (length sheet) (d .variables) (commands-from sheet next) → behind-model (length sheet) d r ≡ opening sheet
+  pub opens-behind : length sheet ≤ 65536 → (d : ModelRecord) (next : ℕ) → sealed d (commands-from sheet next) ≡ model-part (length sheet) naming blank (commands sheet) → (r : Result (Detector × ℕ) Stop) → r ≡ detector-part (length sheet) (d .variables) (commands-from sheet next) → behind-model (length sheet) d r ≡ opening sheet
   opens-behind short d next is r chosen = ap (behind-model (length sheet) d) chosen ∙ opens-by short (sealed d (commands-from sheet next)) is
 
 -- the model of an opening is sealed by its type

@@ -15,8 +15,6 @@ use Rattle.sheet.specs.Commands.{Item}
 use Rattle.model.specs.declared.variable.Variable.{Variable}
 use Rattle.model.specs.Limits.{every, size-of}
 use Rattle.desk.specs.declared.opening.Stop.{Stop}
-use Rattle.desk.specs.declared.opening.DetectorChoice.{DetectorChoice}
-use Rattle.desk.specs.declared.opening.DetectorChoice.the-variants.{Bare, Relaxed, Pattern}
 use Rattle.desk.specs.ModelPart.{stop-at}
 
 -- the operand 255 gives no variable
@@ -47,16 +45,21 @@ abbrev pub small-enough : Option ℕ → Bool
 small-enough None = false
 small-enough (Some product) = leb product 512
 
+-- a detector's kind and its three operands
+abbrev pub Detector : Type 0
+Detector = ℕ × List ℕ
+
 abbrev pub Choice : Type 0
-Choice = Result DetectorChoice Refusal
+Choice = Result Detector Refusal
 
 -- the bare and the relaxed detector take no variable, a pattern takes one to three
+abbrev pub operands-fit : List Variable → ℕ → ℕ → List ℕ → Bool
+operands-fit vs kind first rest = cond (eqb kind 2) (small-enough (pattern-product vs first rest)) (every none-given (first ∷ rest))
+
 abbrev pub kind-answer : List Variable → ℕ → ℕ → ℕ → ℕ → Choice
 kind-answer vs kind first second third =
     cond {A = Choice} (ltb 2 kind) (Err UnknownKind)
-    (cond {A = Choice} (eqb kind 2)
-      (cond {A = Choice} (small-enough (pattern-product vs first (second ∷ third ∷ []))) (Ok (Pattern (first ∷ second ∷ third ∷ []))) (Err WrongOperands))
-      (cond {A = Choice} (every none-given (first ∷ second ∷ third ∷ [])) (Ok (cond (eqb kind 0) Bare Relaxed)) (Err WrongOperands)))
+    (cond {A = Choice} (operands-fit vs kind first (second ∷ third ∷ [])) (Ok (kind, first ∷ second ∷ third ∷ [])) (Err WrongOperands))
 
 -- the command behind the one that sealed the model
 abbrev pub choice-answer : List Variable → Told → Choice
@@ -66,11 +69,11 @@ choice-answer vs said =
     (cond {A = Choice} (eqb (said .0) 0x44) (kind-answer vs (getD (said .1) 0 0) (getD (said .1) 1 0) (getD (said .1) 2 0) (getD (said .1) 3 0))
     (Err OutOfTurn)))
 
--- the choice, with the place of what follows; or the refusal
-abbrev pub chosen-at : ℕ → Item → Choice → Result (DetectorChoice × ℕ) Stop
-chosen-at end i (Ok choice) = Ok (choice, i .next)
+-- the detector, with the place of what follows; or the refusal
+abbrev pub chosen-at : ℕ → Item → Choice → Result (Detector × ℕ) Stop
+chosen-at end i (Ok detector) = Ok (detector, i .next)
 chosen-at end i (Err r) = Err (stop-at end (i .place) r)
 
-abbrev pub detector-part : ℕ → List Variable → List Item → Result (DetectorChoice × ℕ) Stop
+abbrev pub detector-part : ℕ → List Variable → List Item → Result (Detector × ℕ) Stop
 detector-part end vs [] = Err (stop-at end end SheetEnds)
 detector-part end vs (i ∷ is) = chosen-at end i (choice-answer vs (i .said))

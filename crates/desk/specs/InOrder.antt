@@ -63,5 +63,5 @@ Commands-of-a-model-stand-in-order = (end : ℕ) (items rest : List Item) (d : M
 abbrev pub Model-is-sealed : Opened → Type 0
 Model-is-sealed (unsealed stop) = Unit {0}
 Model-is-sealed (unchosen d stop) = Sealed d
-Model-is-sealed (ended d choice) = Sealed d
-Model-is-sealed (orders d choice place) = Sealed d
+Model-is-sealed (ended d detector) = Sealed d
+Model-is-sealed (orders d detector place) = Sealed d

@@ -11,13 +11,12 @@ use Rattle.refusal.specs.Numbers.{refusal-number}
 use Rattle.sheet.specs.Commands.{commands}
 use Rattle.model.specs.Records.{ModelRecord, blank}
 use Rattle.desk.specs.declared.opening.Stop.{Stop}
-use Rattle.desk.specs.declared.opening.DetectorChoice.{DetectorChoice}
 use Rattle.desk.specs.declared.lines.Line.{Line}
 use Rattle.desk.specs.declared.lines.Line.the-variants.{Model, End}
 use Rattle.desk.specs.declared.lines.Line.the-variants as line
 use Rattle.desk.specs.Steps.{naming}
 use Rattle.desk.specs.ModelPart.{ModelEnd, stopped, sealed, model-part}
-use Rattle.desk.specs.Choosing.{detector-part}
+use Rattle.desk.specs.Choosing.{Detector, detector-part}
 use Rattle.desk.specs.Lines.{printed}
 
 pub data Opened : Type 0 where
@@ -26,12 +25,12 @@ pub data Opened : Type 0 where
   -- refused behind the sealed model, before a detector is chosen
   unchosen : ModelRecord → Stop → Opened
   -- the sheet ends behind its detector
-  ended : ModelRecord → DetectorChoice → Opened
+  ended : ModelRecord → Detector → Opened
   -- the sheet goes on behind its detector, at a place
-  orders : ModelRecord → DetectorChoice → ℕ → Opened
+  orders : ModelRecord → Detector → ℕ → Opened
 
 -- a sheet of `end` bytes with the model d, behind which the detector is chosen or refused
-abbrev pub behind-model : ℕ → ModelRecord → Result (DetectorChoice × ℕ) Stop → Opened
+abbrev pub behind-model : ℕ → ModelRecord → Result (Detector × ℕ) Stop → Opened
 behind-model end d (Ok c) = cond (eqb (c .1) end) (ended d (c .0)) (orders d (c .0) (c .1))
 behind-model end d (Err stop) = unchosen d stop
 
@@ -55,8 +54,8 @@ stop-line stop = line.Stop (refusal-number (stop .refusal)) (stop .place)
 abbrev pub opening-lines : Opened → List Line
 opening-lines (unsealed stop) = stop-line stop ∷ []
 opening-lines (unchosen d stop) = model-line d ∷ stop-line stop ∷ []
-opening-lines (ended d choice) = model-line d ∷ End ∷ []
-opening-lines (orders d choice place) = model-line d ∷ []
+opening-lines (ended d detector) = model-line d ∷ End ∷ []
+opening-lines (orders d detector place) = model-line d ∷ []
 
 -- what is printed of a sheet, as bytes
 abbrev pub printed-of : List ℕ → List ℕ

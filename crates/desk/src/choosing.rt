@@ -6,7 +6,7 @@ ghost use Rattle.sheet.specs.Reading.{told};
 ghost use Rattle.sheet.specs.Commands.{commands-from};
 ghost use Rattle.model.specs.Drafts.{recorded};
 ghost use Rattle.desk.specs.Choosing.{size-from, pattern-product, kind-answer, choice-answer, detector-part};
-ghost use Rattle.desk.specs.Told.{choice-told};
+ghost use Rattle.desk.specs.Told.{choice-told, chosen-told};
 use crate::model_part::stop_at;
 use crate::opening::DetectorChoice;
 use crate::opening::Stop;
@@ -51,7 +51,7 @@ fn pattern_product(model: &Model, first: u8, second: u8, third: u8) -> Option<u3
 
 /// The detector of a kind with its operands, or why there is none.
 fn choose(model: &Model, kind: u8, first: u8, second: u8, third: u8) -> Result<DetectorChoice, Refusal>
-    ensures { λ r. ⌜ r ≡ kind-answer (recorded (now (model .entry)) .variables) kind first second third ⌝ }
+    ensures { λ r. ⌜ choice-told r ≡ kind-answer (recorded (now (model .entry)) .variables) kind first second third ⌝ }
 {
     match kind {
         0 | 1 => {
@@ -70,7 +70,7 @@ fn choose(model: &Model, kind: u8, first: u8, second: u8, third: u8) -> Result<D
 
 /// The detector that the command behind the model chooses.
 fn take(model: &Model, command: Command) -> Result<DetectorChoice, Refusal>
-    ensures { λ r. ⌜ r ≡ choice-answer (recorded (now (model .entry)) .variables) (told (command .entry)) ⌝ }
+    ensures { λ r. ⌜ choice-told r ≡ choice-answer (recorded (now (model .entry)) .variables) (told (command .entry)) ⌝ }
 {
     match command {
         Command::Detector { kind, variables } => {
@@ -85,7 +85,7 @@ fn take(model: &Model, command: Command) -> Result<DetectorChoice, Refusal>
 
 /// Reads the command that chooses the detector, behind the one that sealed the model.
 pub(crate) fn read_detector(model: &Model, sheet: &[u8], place: usize) -> Result<ChosenAt, Stop>
-    ensures { λ r. ⌜ choice-told r ≡ detector-part (length (now (sheet .entry))) (recorded (now (model .entry)) .variables) (commands-from (now (sheet .entry)) place) ⌝ }
+    ensures { λ r. ⌜ chosen-told r ≡ detector-part (length (now (sheet .entry))) (recorded (now (model .entry)) .variables) (commands-from (now (sheet .entry)) place) ⌝ }
 {
     let Some(found) = command_at(sheet, place) else {
         return Err(stop_at(sheet.len(), place, Refusal::SheetEnds));

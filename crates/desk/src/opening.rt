@@ -5,7 +5,7 @@ ghost use Rattle.std.specs.declared.option.Option.the-variants.{Some};
 ghost use Rattle.desk.specs.InOrder.{Model-is-sealed, Commands-of-a-model-stand-in-order};
 ghost use Rattle.desk.specs.Lines.{printed};
 ghost use Rattle.desk.specs.Openings.{behind-model, model-line, stop-line, opening, opening-lines, printed-of};
-ghost use Rattle.desk.specs.Told.{opening-told};
+ghost use Rattle.desk.specs.Told.{detector-told, opening-told};
 ghost use Rattle.model.specs.Drafts.{recorded};
 ghost use Rattle.std.specs.declared.result.Result.the-variants.{Ok};
 use crate::choosing::ChosenAt;
@@ -75,7 +75,7 @@ pub fn open_sheet(heap: Global, sheet: &[u8]) -> Result<Opening, AllocError>
 
 /// A sheet whose detector is chosen, and which ends there or goes on.
 fn open_behind(model: Model, chosen: ChosenAt, end: usize) -> Opening
-    ensures { λ r. ⌜ opening-told r ≡ behind-model end (recorded model) (Ok (chosen .choice, chosen .next)) ⌝ }
+    ensures { λ r. ⌜ opening-told r ≡ behind-model end (recorded model) (Ok (detector-told (chosen .choice), chosen .next)) ⌝ }
 {
     let ChosenAt { choice, next } = chosen;
     if next == end {

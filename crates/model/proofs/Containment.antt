@@ -10,7 +10,7 @@ use Rattle.std.specs.declared.option.Option.{Option}
 use Rattle.std.specs.declared.option.Option.the-variants.{Some, None}
 use Rattle.model.specs.declared.row.Row.{Row}
 use Rattle.model.specs.Rows.{at, keeps, same-entry, contained, same-row}
-use Rattle.model.specs.RowLaws.{Containment-is-reflexive, Containment-is-transitive}
+use Rattle.model.specs.RowLaws.{Containment-is-reflexive, Containment-is-transitive, Containment-is-antisymmetric}
 use Rattle.model.proofs.BelowFacts.{all-below-decides}
 use Rattle.model.proofs.RowFacts.{row-ext}
 
@@ -54,3 +54,13 @@ contained-reflexive r = contained-from r r (λ i l. keeps-refl (at r i))
 pub contained-transitive : Containment-is-transitive
 unfolding Containment-is-transitive
 contained-transitive r s t p q = contained-from r t (λ i l. keeps-trans (at r i) (at s i) (at t i) (contained-at r s p i l) (contained-at s t q i l))
+
+keeps-antisym : (a b : Option ℕ) → keeps a b ≡ true → keeps b a ≡ true → a ≡ b
+keeps-antisym None None p q = refl
+keeps-antisym None (Some w) p q = absurd (false≢true q)
+keeps-antisym (Some v) None p q = absurd (false≢true p)
+keeps-antisym (Some v) (Some w) p q = ap (λ n. Some n) (eqb-true v w q)
+
+pub contained-antisymmetric : Containment-is-antisymmetric
+unfolding Containment-is-antisymmetric
+contained-antisymmetric r t p q = row-ext r t (λ i l. keeps-antisym (at r i) (at t i) (contained-at r t p i l) (contained-at t r q i l))

@@ -1,10 +1,6 @@
 -- How moves and containment go together, and what a move makes of a state.
 use mathlib.Core.Path.{_≡_}
 use mathlib.Core.Bool.{true}
-use mathlib.Core.List.{List}
-use Prim.Native.Nat.{ℕ}
-use Rattle.std.specs.Runs.{nth}
-use Rattle.std.specs.declared.option.Option.the-variants.{Some}
 use Rattle.model.specs.declared.row.Row.{Row}
 use Rattle.model.specs.declared.moves.Move.{Move}
 use Rattle.model.specs.Limits.{move-fits}

@@ -9,3 +9,6 @@ Containment-is-reflexive = (r : Row) → contained r r ≡ true
 
 unfoldable pub Containment-is-transitive : Type 0
 Containment-is-transitive = (r s t : Row) → contained r s ≡ true → contained s t ≡ true → contained r t ≡ true
+
+unfoldable pub Containment-is-antisymmetric : Type 0
+Containment-is-antisymmetric = (r t : Row) → contained r t ≡ true → contained t r ≡ true → r ≡ t

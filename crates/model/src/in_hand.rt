@@ -11,7 +11,7 @@ use crate::row::Row;
 use crate::table::MoveTable;
 use crate::variable::Variable;
 
-pub mod entering;
+pub mod steps;
 pub mod naming;
 pub mod writing_ends;
 pub mod writing_moves;

@@ -4,7 +4,7 @@ ghost use lib.ListN.{length};
 
 pub mod methods;
 
-/// An entry for each variable that a model may have. A row without open entries is a state.
+/// An entry for each variable that a model may have.
 #[derive(Clone, Copy)]
 pub struct Row {
     pub(crate) entries: [Option<u8>; 32],

@@ -1,4 +1,4 @@
--- Reading and writing out commands are inverse to each other.
+-- What is read can be written out again, and what is written out can be read back.
 use mathlib.Core.Path.{_≡_}
 use mathlib.Core.Bool.{false}
 use mathlib.Core.List.{List, [], _∷_, _++_}

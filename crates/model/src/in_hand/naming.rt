@@ -4,13 +4,13 @@ ghost use Rattle.std.specs.Vec.{made};
 ghost use Rattle.model.specs.Records.{blank};
 ghost use Rattle.model.specs.Drafts.{named, written, ended};
 ghost use Rattle.model.specs.Writing.{variable-answer, name-variable, begin-move};
-use crate::row::Row;
 use crate::table::MoveTable;
 use crate::variable::Variable;
 use refusal::Refusal;
 use std::alloc::AllocError;
 use std::alloc::Global;
 use super::NamingVariables;
+use super::steps::ends_open;
 use super::WritingEnds;
 use super::WritingMoves;
 
@@ -52,7 +52,6 @@ impl NamingVariables {
     pub fn into_ends(self) -> WritingEnds
         ensures { λ r. ⌜ ended r ≡ named self ⌝ }
     {
-        let NamingVariables { variables, moves } = self;
-        WritingEnds { variables, moves, start: Row::open(), goal: Row::open() }
+        ends_open(self.variables, self.moves)
     }
 }

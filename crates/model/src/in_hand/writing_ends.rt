@@ -7,7 +7,7 @@ ghost use Rattle.model.specs.Writing.{end-answer, enter-end, start-answer, ent
 use crate::sealed::Model;
 use refusal::Refusal;
 use super::End;
-use super::entering::enter;
+use super::steps::enter;
 use super::WritingEnds;
 
 impl WritingEnds {

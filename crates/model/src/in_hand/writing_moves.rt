@@ -2,9 +2,9 @@
 ghost use mathlib.Core.Path.{_≡_};
 ghost use Rattle.model.specs.Drafts.{written, ended};
 ghost use Rattle.model.specs.Writing.{move-answer, begin-move, part-answer, enter-part, condition-answer, enter-condition, effect-answer, enter-effect};
-use crate::row::Row;
 use refusal::Refusal;
-use super::entering::enter_in_move;
+use super::steps::ends_open;
+use super::steps::enter_in_move;
 use super::Part;
 use super::WritingEnds;
 use super::WritingMoves;
@@ -48,7 +48,6 @@ impl WritingMoves {
     pub fn into_ends(self) -> WritingEnds
         ensures { λ r. ⌜ ended r ≡ written self ⌝ }
     {
-        let WritingMoves { variables, moves } = self;
-        WritingEnds { variables, moves, start: Row::open(), goal: Row::open() }
+        ends_open(self.variables, self.moves)
     }
 }

@@ -3,7 +3,7 @@ ghost use mathlib.Core.Path.{_≡_};
 ghost use Rattle.std.specs.declared.option.Option.the-variants.{Some};
 ghost use Rattle.std.specs.Orderings.{Decides};
 ghost use Rattle.model.specs.Rows.{at, filled-row, open-row, with-entry, keeps, differ, same-entry, contained, disagree, same-row};
-ghost use Rattle.model.specs.RowLaws.{Containment-is-reflexive, Containment-is-transitive};
+ghost use Rattle.model.specs.RowLaws.{Containment-is-reflexive, Containment-is-transitive, Containment-is-antisymmetric};
 use super::Row;
 
 impl Row {
@@ -48,6 +48,7 @@ impl Row {
         ensures answer { λ r. ⌜ r ≡ contained (now (self .entry)) (now (other .entry)) ⌝ }
         ensures reflexive { λ _. ⌜ Containment-is-reflexive ⌝ }
         ensures transitive { λ _. ⌜ Containment-is-transitive ⌝ }
+        ensures antisymmetric { λ _. ⌜ Containment-is-antisymmetric ⌝ }
     {
         for variable in 0..32 {
             if !entry_kept(self.entry(variable), other.entry(variable)) {

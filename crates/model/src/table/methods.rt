@@ -6,7 +6,7 @@ ghost use ghost.Atoms.{sem};
 ghost use denote.Follow.{follows-so};
 ghost use denote.Ref.{name};
 ghost use lib.Dec.{ltb};
-ghost use lib.ListN.{getD, length};
+ghost use lib.ListN.{getD};
 ghost use Rattle.std.specs.Changed.{with-item, nameOf};
 ghost use Rattle.std.specs.Of.Vec.{vec-items, vec-len};
 ghost use Rattle.std.specs.Options.{isSome};

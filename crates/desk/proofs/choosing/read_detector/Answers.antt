@@ -6,12 +6,11 @@ use Rattle.std.specs.declared.result.Result.the-variants.{Err}
 use Rattle.model.specs.Drafts.{recorded}
 use Rattle.sheet.specs.Commands.{item-of}
 use Rattle.sheet.proofs.CommandList.{commands-none, commands-some}
-use Rattle.desk.specs.declared.opening.DetectorChoice.{DetectorChoice}
 use Rattle.desk.specs.declared.opening.Stop.{Stop}
-use Rattle.desk.specs.Choosing.{detector-part, chosen-at}
+use Rattle.desk.specs.Choosing.{Detector, detector-part, chosen-at}
 use Rattle.desk.proofs.choosing.read_detector.Needs as need
 
-abbrev refused : Stop → Result (DetectorChoice × ℕ) Stop
+abbrev refused : Stop → Result (Detector × ℕ) Stop
 refused stop = Err stop
 
 pub returns-in-rest : need.returns-in-rest

@@ -1,7 +1,7 @@
 use mathlib.Core.Path.{ap, sym, _∙_}
 use Rattle.model.specs.declared.in_hand.Part.the-variants.{Conditions, Effects}
 use Rattle.model.specs.Writing.{entry-answer, part-of, with-part, move-entered}
-use Rattle.model.proofs.in_hand.entering.enter_in_move.Needs as need
+use Rattle.model.proofs.in_hand.steps.enter_in_move.Needs as need
 
 pub returns-in-Conditions : need.returns-in-Conditions
 returns-in-Conditions c =

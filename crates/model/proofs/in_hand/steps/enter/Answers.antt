@@ -7,7 +7,7 @@ use Rattle.std.specs.declared.result.Result.the-variants.{Ok}
 use Rattle.model.specs.Rows.{with-entry}
 use Rattle.model.specs.Tables.{Answer}
 use Rattle.model.specs.Writing.{entry-answer}
-use Rattle.model.proofs.in_hand.entering.enter.Needs as need
+use Rattle.model.proofs.in_hand.steps.enter.Needs as need
 
 pub returns-in-None : need.returns-in-None
 returns-in-None c =
