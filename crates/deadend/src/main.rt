@@ -14,7 +14,8 @@ fn run(rt: &LibcRuntime) -> Result<(), AnyError> {
     let opening = open_sheet(rt.alloc(), sheet.as_slice())?;
     print!(rt, "{opening}")?;
     match opening {
-        Opening::Orders { .. } => Err("the sheet goes on behind its detector, and orders are not carried out yet".into()),
+        Opening::Orders { .. } =>
+            Err("the sheet goes on behind its detector, and orders are not carried out yet".into()),
         _ => Ok(()),
     }
 }

@@ -244,9 +244,10 @@ variable-first d e d' i is rest said vs ms o = record {
 }
 
 named-variables : (d : ModelRecord) (size : ℕ) (name : List ℕ) → isOk (variable-answer d size) ≡ true → (name-variable d size name .variables ≡ d .variables ++ record { name = name; size = size } ∷ []) × (name-variable d size name .moves ≡ d .moves)
-named-variables d size name fits =
-    ( ap (λ q. cond {A = ModelRecord} q (record-of (d .variables ++ record { name = name; size = size } ∷ []) (d .moves) (d .start) (d .goal)) d .variables) fits,
-      ap (λ q. cond {A = ModelRecord} q (record-of (d .variables ++ record { name = name; size = size } ∷ []) (d .moves) (d .start) (d .goal)) d .moves) fits )
+named-variables d size name fits = (
+  ap (λ q. cond {A = ModelRecord} q (record-of (d .variables ++ record { name = name; size = size } ∷ []) (d .moves) (d .start) (d .goal)) d .variables) fits,
+  ap (λ q. cond {A = ModelRecord} q (record-of (d .variables ++ record { name = name; size = size } ∷ []) (d .moves) (d .start) (d .goal)) d .moves) fits,
+)
 
 module _ (end : ℕ) (i : Item) (is rest : List Item) (d' : ModelRecord) where
   all-went : (q : Phase) (d e : ModelRecord) → model-part end q e is ≡ sealed d' rest → Later end i is rest d' naming (λ e. All-stand e d' is rest) → Went naming q d e (i .said) → All-stand d d' (i ∷ is) rest

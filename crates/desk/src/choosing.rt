@@ -30,7 +30,11 @@ pub struct ChosenAt {
 fn size_from(model: &Model, lowest: usize, variable: u8) -> Option<u8>
     ensures { λ r. ⌜ r ≡ size-from (recorded (now (model .entry)) .variables) lowest variable ⌝ }
 {
-    if (variable as usize) < lowest { None } else { model.size(variable as usize) }
+    if (variable as usize) < lowest {
+        None
+    } else {
+        model.size(variable as usize)
+    }
 }
 
 /// The product of the sizes of one to three rising variables, behind which no operand gives one.
@@ -50,7 +54,13 @@ fn pattern_product(model: &Model, first: u8, second: u8, third: u8) -> Option<u3
 }
 
 /// The detector of a kind with its operands, or why there is none.
-fn choose(model: &Model, kind: u8, first: u8, second: u8, third: u8) -> Result<DetectorChoice, Refusal>
+fn choose(
+    model: &Model,
+    kind: u8,
+    first: u8,
+    second: u8,
+    third: u8,
+) -> Result<DetectorChoice, Refusal>
     ensures { λ r. ⌜ choice-told r ≡ kind-answer (recorded (now (model .entry)) .variables) kind first second third ⌝ }
 {
     match kind {
@@ -58,7 +68,11 @@ fn choose(model: &Model, kind: u8, first: u8, second: u8, third: u8) -> Result<D
             if first != NONE || second != NONE || third != NONE {
                 return Err(Refusal::WrongOperands);
             }
-            if kind == 0 { Ok(DetectorChoice::Bare) } else { Ok(DetectorChoice::Relaxed) }
+            if kind == 0 {
+                Ok(DetectorChoice::Bare)
+            } else {
+                Ok(DetectorChoice::Relaxed)
+            }
         }
         2 => match pattern_product(model, first, second, third) {
             Some(product) if product <= 512 => Ok(DetectorChoice::Pattern([first, second, third])),
@@ -91,7 +105,10 @@ pub(crate) fn read_detector(model: &Model, sheet: &[u8], place: usize) -> Result
         return Err(stop_at(sheet.len(), place, Refusal::SheetEnds));
     };
     match take(model, found.command) {
-        Ok(choice) => Ok(ChosenAt { choice, next: found.next }),
+        Ok(choice) => Ok(ChosenAt {
+            choice,
+            next: found.next,
+        }),
         Err(refusal) => Err(stop_at(sheet.len(), found.place, refusal)),
     }
 }

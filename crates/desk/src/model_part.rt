@@ -29,7 +29,10 @@ pub(crate) fn stop_at(end: usize, place: usize, refusal: Refusal) -> Stop
     ensures { λ r. ⌜ r ≡ stop-at end place refusal ⌝ }
 {
     match refusal {
-        Refusal::SheetEnds => Stop { refusal, place: end },
+        Refusal::SheetEnds => Stop {
+            refusal,
+            place: end,
+        },
         _ => Stop { refusal, place },
     }
 }
@@ -46,7 +49,10 @@ pub(crate) fn read_model(heap: Global, sheet: &[u8]) -> Result<Result<SealedAt, 
         };
         match stage.take(found.command) {
             Turn::Goes(next) => stage = next,
-            Turn::Seals(model) => return Ok(Ok(SealedAt { model, next: found.next })),
+            Turn::Seals(model) => return Ok(Ok(SealedAt {
+                model,
+                next: found.next,
+            })),
             Turn::Refused(refusal) => return Ok(Err(stop_at(sheet.len(), found.place, refusal))),
         }
         place = found.next;

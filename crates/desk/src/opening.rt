@@ -45,11 +45,21 @@ pub enum Opening {
     /// It is refused before its model is sealed.
     Unsealed(Stop),
     /// Its model is sealed, and it is refused before a detector is chosen.
-    Unchosen { model: Model, stop: Stop },
+    Unchosen {
+        model: Model,
+        stop: Stop,
+    },
     /// It ends behind the choice of its detector.
-    Ended { model: Model, choice: DetectorChoice },
+    Ended {
+        model: Model,
+        choice: DetectorChoice,
+    },
     /// It goes on behind the choice of its detector, at the place `orders`.
-    Orders { model: Model, choice: DetectorChoice, orders: usize },
+    Orders {
+        model: Model,
+        choice: DetectorChoice,
+        orders: usize,
+    },
 }
 
 /// Carries out a sheet up to the choice of its detector.
@@ -60,7 +70,10 @@ pub fn open_sheet(heap: Global, sheet: &[u8]) -> Result<Opening, AllocError>
     ensures in_order { λ _. ⌜ Commands-of-a-model-stand-in-order ⌝ }
 {
     if sheet.len() > LONGEST {
-        let stop = Stop { refusal: Refusal::TooMany, place: LONGEST };
+        let stop = Stop {
+            refusal: Refusal::TooMany,
+            place: LONGEST,
+        };
         return Ok(Opening::Unsealed(stop));
     }
     let SealedAt { model, next } = match read_model(heap, sheet)? {
@@ -81,20 +94,30 @@ fn open_behind(model: Model, chosen: ChosenAt, end: usize) -> Opening
     if next == end {
         Opening::Ended { model, choice }
     } else {
-        Opening::Orders { model, choice, orders: next }
+        Opening::Orders {
+            model,
+            choice,
+            orders: next,
+        }
     }
 }
 
 fn model_line(model: &Model) -> Line
     ensures { λ r. ⌜ r ≡ model-line (recorded (now (model .entry))) ⌝ }
 {
-    Line::Model { variables: model.variables().len(), moves: model.moves().len() }
+    Line::Model {
+        variables: model.variables().len(),
+        moves: model.moves().len(),
+    }
 }
 
 fn stop_line(stop: &Stop) -> Line
     ensures { λ r. ⌜ r ≡ stop-line (now (stop .entry)) ⌝ }
 {
-    Line::Stop { number: stop.refusal.number(), place: stop.place }
+    Line::Stop {
+        number: stop.refusal.number(),
+        place: stop.place,
+    }
 }
 
 pub impl fmt::Display for Opening as OpeningDisplay {

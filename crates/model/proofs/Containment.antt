@@ -39,9 +39,10 @@ same-entry-decides (Some v) (Some w) = ((λ h. ap (λ n. Some n) (eqb-true v w h
 
 -- rows have the same entries exactly if they are equal
 same-row-decides : (r t : Row) → Decides (same-row r t) (r ≡ t)
-same-row-decides r t =
-    ( (λ h. row-ext r t (λ i l. same-entry-decides (at r i) (at t i) .0 (all-below-decides (λ k. same-entry (at r k) (at t k)) 32 .0 h i l))),
-      λ e. all-below-decides (λ k. same-entry (at r k) (at t k)) 32 .1 (λ i l. same-entry-decides (at r i) (at t i) .1 (ap (λ x. at x i) e)) )
+same-row-decides r t = (
+  (λ h. row-ext r t (λ i l. same-entry-decides (at r i) (at t i) .0 (all-below-decides (λ k. same-entry (at r k) (at t k)) 32 .0 h i l))),
+  λ e. all-below-decides (λ k. same-entry (at r k) (at t k)) 32 .1 (λ i l. same-entry-decides (at r i) (at t i) .1 (ap (λ x. at x i) e)),
+)
 
 -- an answer that is the test says whether the rows are equal
 pub told-same : {answer : Bool} (r t : Row) → answer ≡ same-row r t → (answer ≡ same-row r t) × Decides answer (r ≡ t)

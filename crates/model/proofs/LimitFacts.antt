@@ -76,9 +76,10 @@ module _ (vs : List Variable) where
   -- a row that fits, with an entry that is accepted or refused, fits again
   pub entered-fits : (row : Row) (i v : ℕ) → length vs ≤ 32 → row-fits vs row ≡ true → row-fits vs (entered vs row i v) ≡ true
   entered-fits row i v few fits =
-      (elim (isOk (entry-answer vs row i v)) as (λ q. isOk (entry-answer vs row i v) ≡ q → row-fits vs (cond q (with-entry row i (Some v)) row) ≡ true)
-      [ true ↦ λ e. (let asked = accepted row i v e in with-entry-fits row i v (omega arith) fits (asked .1))
-      | false ↦ λ e. fits ]) refl
+      (elim (isOk (entry-answer vs row i v)) as (λ q. isOk (entry-answer vs row i v) ≡ q → row-fits vs (cond q (with-entry row i (Some v)) row) ≡ true) [
+        | true ↦ λ e. (let asked = accepted row i v e in with-entry-fits row i v (omega arith) fits (asked .1))
+        | false ↦ λ e. fits
+      ]) refl
 
   last-fits : (ms : List Move) → moves-fit vs ms ≡ true → move-fits vs (last-begun ms) ≡ true
   last-fits ms h = every-getD (move-fits vs) ms (length ms - 1) (begun []) h (begun-fits [])

@@ -124,7 +124,8 @@ unfolding Progression-of-a-state-is-its-successor
 state-successor d m r s fits state within a =
     let vs = d .variables in
     let parts = and-parts (row-fits vs (m .conditions)) (row-fits vs (m .effects)) fits in
-    let of-state = and-parts (row-fits vs s) (complete vs s) state in
-    ( progression-is-successor vs m s (parts .0) (parts .1) (of-state .0) (of-state .1),
+    let of-state = and-parts (row-fits vs s) (complete vs s) state in (
+      progression-is-successor vs m s (parts .0) (parts .1) (of-state .0) (of-state .1),
       and-from _ _ (progression-fits vs m s (parts .0) (parts .1) (of-state .0) (of-state .1)) (progression-complete vs m s (parts .0) (parts .1) (of-state .0) (of-state .1)),
-      smaller-progression-contained m r s within a )
+      smaller-progression-contained m r s within a,
+    )

@@ -11,8 +11,8 @@ use crate::row::Row;
 use crate::table::MoveTable;
 use crate::variable::Variable;
 
-pub mod steps;
 pub mod naming;
+pub mod steps;
 pub mod writing_ends;
 pub mod writing_moves;
 

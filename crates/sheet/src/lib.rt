@@ -58,30 +58,34 @@ pub fn read<'a>(sheet: &'a [u8]) -> (Command<'a>, &'a [u8])
     ensures { λ r. ⌜ (told (r .0), now (r .1)) ≡ reading (now (sheet .entry)) ⌝ }
 {
     match sheet {
-        [b'V', size, operands @ ..] => match operands.split_first_chunk::<8>() {
-            Some((name, rest)) => (Command::Variable { size: *size, name }, rest),
+        &[b'V', size, ref operands @ ..] => match operands.split_first_chunk::<8>() {
+            Some((name, rest)) => (Command::Variable { size, name }, rest),
             None => (Command::Fault(Fault::Cut), sheet),
         },
-        [b'A', operands @ ..] => match operands.split_first_chunk::<8>() {
+        &[b'A', ref operands @ ..] => match operands.split_first_chunk::<8>() {
             Some((name, rest)) => (Command::Move { name }, rest),
             None => (Command::Fault(Fault::Cut), sheet),
         },
-        [b'P', variable, value, rest @ ..] => (Command::Condition { variable: *variable, value: *value }, rest),
-        [b'E', variable, value, rest @ ..] => (Command::Effect { variable: *variable, value: *value }, rest),
-        [b'S', variable, value, rest @ ..] => (Command::Start { variable: *variable, value: *value }, rest),
-        [b'G', variable, value, rest @ ..] => (Command::Goal { variable: *variable, value: *value }, rest),
-        [b'Z', rest @ ..] => (Command::Seal, rest),
-        [b'D', kind, first, second, third, rest @ ..] => {
-            (Command::Detector { kind: *kind, variables: [*first, *second, *third] }, rest)
+        &[b'P', variable, value, ref rest @ ..] => (Command::Condition { variable, value }, rest),
+        &[b'E', variable, value, ref rest @ ..] => (Command::Effect { variable, value }, rest),
+        &[b'S', variable, value, ref rest @ ..] => (Command::Start { variable, value }, rest),
+        &[b'G', variable, value, ref rest @ ..] => (Command::Goal { variable, value }, rest),
+        &[b'Z', ref rest @ ..] => (Command::Seal, rest),
+        &[b'D', kind, first, second, third, ref rest @ ..] => {
+            let variables = [first, second, third];
+            (Command::Detector { kind, variables }, rest)
         }
-        [b'R', variable, value, rest @ ..] => (Command::Entry { variable: *variable, value: *value }, rest),
-        [b'N', rest @ ..] => (Command::Next, rest),
-        [b'O', rest @ ..] => (Command::Offer, rest),
-        [b'T', rest @ ..] => (Command::Settle, rest),
-        [b'J', rest @ ..] => (Command::Judge, rest),
-        [b'Q', rest @ ..] => (Command::Probe, rest),
-        [b'W', rest @ ..] => (Command::Write, rest),
-        [] | [b'V' | b'P' | b'E' | b'S' | b'G' | b'D' | b'R', ..] => (Command::Fault(Fault::Cut), sheet),
+        &[b'R', variable, value, ref rest @ ..] => (Command::Entry { variable, value }, rest),
+        &[b'N', ref rest @ ..] => (Command::Next, rest),
+        &[b'O', ref rest @ ..] => (Command::Offer, rest),
+        &[b'T', ref rest @ ..] => (Command::Settle, rest),
+        &[b'J', ref rest @ ..] => (Command::Judge, rest),
+        &[b'Q', ref rest @ ..] => (Command::Probe, rest),
+        &[b'W', ref rest @ ..] => (Command::Write, rest),
+        [] | [b'V' | b'P' | b'E' | b'S' | b'G' | b'D' | b'R', ..] => (
+            Command::Fault(Fault::Cut),
+            sheet,
+        ),
         _ => (Command::Fault(Fault::Unknown), sheet),
     }
 }
@@ -105,7 +109,11 @@ pub fn command_at<'a>(sheet: &'a [u8], place: usize) -> Option<Placed<'a>>
     }
     let (command, rest) = read(&sheet[place..]);
     let next = sheet.len() - rest.len();
-    Some(Placed { command, place, next })
+    Some(Placed {
+        command,
+        place,
+        next,
+    })
 }
 
 /// Whether the sheet has no byte at the place.

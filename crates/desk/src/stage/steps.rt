@@ -4,12 +4,12 @@ ghost use Rattle.sheet.specs.Reading.{told};
 ghost use Rattle.model.specs.Drafts.{ended};
 ghost use Rattle.desk.specs.Stages.{phase-of, record-so-far, stage-told, turn-told};
 ghost use Rattle.desk.specs.Steps.{variable-step, move-step, condition-step, effect-step, start-step, goal-step, seal-step, step};
+use super::Stage;
+use super::Turn;
 use model::in_hand::WritingEnds;
 use refusal::Refusal;
 use sheet::Command;
 use sheet::Fault;
-use super::Stage;
-use super::Turn;
 
 impl Stage {
     fn name_variable(self, size: u8, name: [u8; 8]) -> Result<Stage, Refusal>
@@ -105,7 +105,10 @@ impl Stage {
         match command {
             Command::Variable { size, name } => went(self.name_variable(size, *name)),
             Command::Move { name } => went(self.begin_move(*name)),
-            Command::Condition { variable, value } => went(self.condition(variable as usize, value)),
+            Command::Condition { variable, value } => went(self.condition(
+                variable as usize,
+                value,
+            )),
             Command::Effect { variable, value } => went(self.effect(variable as usize, value)),
             Command::Start { variable, value } => went(self.start(variable as usize, value)),
             Command::Goal { variable, value } => went(self.goal(variable as usize, value)),

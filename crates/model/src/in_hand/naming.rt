@@ -4,15 +4,15 @@ ghost use Rattle.std.specs.Vec.{made};
 ghost use Rattle.model.specs.Records.{blank};
 ghost use Rattle.model.specs.Drafts.{named, written, ended};
 ghost use Rattle.model.specs.Writing.{variable-answer, name-variable, begin-move};
+use super::NamingVariables;
+use super::WritingEnds;
+use super::WritingMoves;
+use super::steps::ends_open;
 use crate::table::MoveTable;
 use crate::variable::Variable;
 use refusal::Refusal;
 use std::alloc::AllocError;
 use std::alloc::Global;
-use super::NamingVariables;
-use super::steps::ends_open;
-use super::WritingEnds;
-use super::WritingMoves;
 
 impl NamingVariables {
     /// A model with nothing in it. No later step asks for memory.
@@ -43,7 +43,10 @@ impl NamingVariables {
     pub fn begin_move(self, name: [u8; 8]) -> WritingMoves
         ensures { λ r. ⌜ written r ≡ begin-move (named self) name ⌝ }
     {
-        let NamingVariables { variables, mut moves } = self;
+        let NamingVariables {
+            variables,
+            mut moves,
+        } = self;
         let _ = moves.begin(name);
         WritingMoves { variables, moves }
     }

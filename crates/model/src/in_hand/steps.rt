@@ -9,16 +9,21 @@ ghost use Rattle.model.specs.Limits.{sizes-fit, moves-fit};
 ghost use Rattle.model.specs.Records.{record-of};
 ghost use Rattle.model.specs.Drafts.{ended};
 ghost use Rattle.model.specs.Writing.{entry-answer, entered, part-of, move-entered};
+use super::Part;
+use super::WritingEnds;
 use crate::moves::Move;
 use crate::row::Row;
 use crate::table::MoveTable;
 use crate::variable::Variable;
 use refusal::Refusal;
-use super::Part;
-use super::WritingEnds;
 
 /// Enters the value where the variable is one of these, the value is below its size, and the row leaves it open.
-pub(crate) fn enter(variables: &[Variable], row: &mut Row, variable: usize, value: u8) -> Result<(), Refusal>
+pub(crate) fn enter(
+    variables: &[Variable],
+    row: &mut Row,
+    variable: usize,
+    value: u8,
+) -> Result<(), Refusal>
     ensures answer { λ r. ⌜ r ≡ entry-answer (now (variables .entry)) (now (row .entry)) variable value ⌝ }
     ensures after { λ _. ⌜ now (row .exit) ≡ entered (now (variables .entry)) (now (row .entry)) variable value ⌝ }
 {
@@ -38,7 +43,13 @@ pub(crate) fn enter(variables: &[Variable], row: &mut Row, variable: usize, valu
 }
 
 /// Enters the value in one of the two rows of a move.
-pub(crate) fn enter_in_move(variables: &[Variable], written: &mut Move, part: Part, variable: usize, value: u8) -> Result<(), Refusal>
+pub(crate) fn enter_in_move(
+    variables: &[Variable],
+    written: &mut Move,
+    part: Part,
+    variable: usize,
+    value: u8,
+) -> Result<(), Refusal>
     ensures answer { λ r. ⌜ r ≡ entry-answer (now (variables .entry)) (part-of part (now (written .entry))) variable value ⌝ }
     ensures after { λ _. ⌜ now (written .exit) ≡ move-entered part (now (variables .entry)) (now (written .entry)) variable value ⌝ }
 {
@@ -55,5 +66,10 @@ pub(crate) fn ends_open(variables: Vec<Variable>, moves: MoveTable) -> WritingEn
     requires fit { ⌜ moves-fit (vec-items variables) (table-moves moves) ≡ true ⌝ }
     ensures { λ r. ⌜ ended r ≡ record-of (vec-items variables) (table-moves moves) open-row open-row ⌝ }
 {
-    WritingEnds { variables, moves, start: Row::open(), goal: Row::open() }
+    WritingEnds {
+        variables,
+        moves,
+        start: Row::open(),
+        goal: Row::open(),
+    }
 }

@@ -4,11 +4,11 @@ ghost use Rattle.std.specs.Vec.{made, refused};
 ghost use Rattle.model.specs.Drafts.{ended, recorded, sealed-or-back};
 ghost use Rattle.model.specs.Records.{Sealed};
 ghost use Rattle.model.specs.Writing.{end-answer, enter-end, start-answer, enter-start, goal-answer, enter-goal, seal-answer, sealing};
+use super::End;
+use super::WritingEnds;
+use super::steps::enter;
 use crate::sealed::Model;
 use refusal::Refusal;
-use super::End;
-use super::steps::enter;
-use super::WritingEnds;
 
 impl WritingEnds {
     /// Enters a value of the start.

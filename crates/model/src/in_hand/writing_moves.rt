@@ -2,12 +2,12 @@
 ghost use mathlib.Core.Path.{_≡_};
 ghost use Rattle.model.specs.Drafts.{written, ended};
 ghost use Rattle.model.specs.Writing.{move-answer, begin-move, part-answer, enter-part, condition-answer, enter-condition, effect-answer, enter-effect};
-use refusal::Refusal;
-use super::steps::ends_open;
-use super::steps::enter_in_move;
 use super::Part;
 use super::WritingEnds;
 use super::WritingMoves;
+use super::steps::ends_open;
+use super::steps::enter_in_move;
+use refusal::Refusal;
 
 impl WritingMoves {
     /// Begins the next move.

@@ -18,14 +18,20 @@ impl Row {
     fn filled(entry: Option<u8>) -> Row
         ensures { λ r. ⌜ r ≡ filled-row entry ⌝ }
     {
-        Row { entries: [entry; 32] }
+        Row {
+            entries: [entry; 32],
+        }
     }
 
     /// The entry of a variable: its value, or none where it is open or there is no such variable.
     pub fn entry(&self, variable: usize) -> Option<u8>
         ensures { λ r. ⌜ r ≡ at (now (self .entry)) variable ⌝ }
     {
-        if variable < 32 { self.entries[variable] } else { None }
+        if variable < 32 {
+            self.entries[variable]
+        } else {
+            None
+        }
     }
 
     /// Gives the variable the value. From the 33rd variable on nothing changes.
@@ -35,11 +41,12 @@ impl Row {
         self.put(variable, Some(value));
     }
 
-    fn put(&mut self, variable: usize, entry: Option<u8>)
-        ensures { λ _. ⌜ now (self .exit) ≡ with-entry (now (self .entry)) variable entry ⌝ }
+    /// Puts an entry in the place of the one that the variable has.
+    fn put(&mut self, number: usize, entry: Option<u8>)
+        ensures { λ _. ⌜ now (self .exit) ≡ with-entry (now (self .entry)) number entry ⌝ }
     {
-        if variable < 32 {
-            self.entries[variable] = entry;
+        if number < 32 {
+            self.entries[number] = entry;
         }
     }
 

@@ -2,10 +2,10 @@
 ghost use mathlib.Core.Path.{_≡_};
 ghost use Rattle.model.specs.Drafts.{recorded};
 ghost use Rattle.model.specs.Limits.{size-of};
+use super::Model;
 use crate::moves::Move;
 use crate::row::Row;
 use crate::variable::Variable;
-use super::Model;
 
 impl Model {
     /// Its variables, by number.
@@ -20,7 +20,11 @@ impl Model {
         ensures { λ r. ⌜ r ≡ size-of (recorded (now (self .entry)) .variables) variable ⌝ }
     {
         let variables = self.variables.as_slice();
-        if variable < variables.len() { Some(variables[variable].size) } else { None }
+        if variable < variables.len() {
+            Some(variables[variable].size)
+        } else {
+            None
+        }
     }
 
     /// Its moves, by number.

@@ -15,12 +15,12 @@ ghost use Rattle.std.specs.Vec.{made};
 ghost use Rattle.model.specs.contracts.table.MoveTable.{the-row};
 ghost use Rattle.model.specs.contracts.moves.Move.{the-row as move-row};
 ghost use Rattle.model.specs.Tables.{table-moves, begin-answer, with-begun};
+use super::MoveTable;
 use crate::moves::Move;
 use crate::row::Row;
 use refusal::Refusal;
 use std::alloc::AllocError;
 use std::alloc::Global;
-use super::MoveTable;
 
 impl MoveTable {
     /// An empty table with room for 128 moves.

@@ -11,8 +11,13 @@ pub ghost-result : need.ghost-result
 ghost-result c =
     let self = c .args .self in
     let vs = vec-items (self .variables) in
-    let ms = table-moves (self .moves) in
-    ( self .few,
-      (self .sized,
-      (subst (λ l. 0 < length l) (sym (c .begin .ensures .after)) (first-begun-some ms _ (self .none)),
-      (ap (moves-fit vs) (c .begin .ensures .after) ∙ with-begun-fits vs ms _ (every-none (move-fits vs) ms (self .none)), tt))) )
+    let ms = table-moves (self .moves) in (
+      self .few,
+      (
+        self .sized,
+        (
+          subst (λ l. 0 < length l) (sym (c .begin .ensures .after)) (first-begun-some ms _ (self .none)),
+          (ap (moves-fit vs) (c .begin .ensures .after) ∙ with-begun-fits vs ms _ (every-none (move-fits vs) ms (self .none)), tt),
+        ),
+      ),
+    )

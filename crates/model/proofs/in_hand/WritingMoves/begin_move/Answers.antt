@@ -11,8 +11,13 @@ pub ghost-self : need.ghost-self
 ghost-self c =
     let self = c .args .self .now in
     let vs = vec-items (self .variables) in
-    let ms = table-moves (self .moves) in
-    ( self .few,
-      (self .sized,
-      (subst (λ l. 0 < length l) (sym (c .begin .ensures .after)) (with-begun-some ms _ (self .some)),
-      (ap (moves-fit vs) (c .begin .ensures .after) ∙ with-begun-fits vs ms _ (self .fit), tt))) )
+    let ms = table-moves (self .moves) in (
+      self .few,
+      (
+        self .sized,
+        (
+          subst (λ l. 0 < length l) (sym (c .begin .ensures .after)) (with-begun-some ms _ (self .some)),
+          (ap (moves-fit vs) (c .begin .ensures .after) ∙ with-begun-fits vs ms _ (self .fit), tt),
+        ),
+      ),
+    )

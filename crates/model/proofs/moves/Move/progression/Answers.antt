@@ -13,11 +13,12 @@ pub loop-variable-again : need.loop-variable-again
 loop-variable-again c =
     let i = c .loop-variable .variable in
     let entries = c .loop-variable .entries in
-    let within : i < length entries = omega arith in
-    ( length-set entries i (c .next-entry .result) ∙ c .loop-variable .inv .0,
+    let within : i < length entries = omega arith in (
+      length-set entries i (c .next-entry .result) ∙ c .loop-variable .inv .0,
       below-more _ i
-      (λ k h. let other : k ≢ i = omega arith in rw getD-set-other (c .loop-variable .inv .1 k h))
-      (rw getD-set-same (c .next-entry .ensures)) )
+          (λ k h. let other : k ≢ i = omega arith in rw getD-set-other (c .loop-variable .inv .1 k h))
+          (rw getD-set-same (c .next-entry .ensures)),
+    )
 
 pub returns : need.returns
 returns c = record {
