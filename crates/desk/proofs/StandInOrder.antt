@@ -16,8 +16,8 @@ use Rattle.sheet.specs.Commands.{Item}
 use Rattle.model.specs.declared.moves.Move.{Move}
 use Rattle.model.specs.declared.variable.Variable.{Variable}
 use Rattle.model.specs.Records.{ModelRecord, blank, record-of}
-use Rattle.model.specs.Tables.{begun, begin-answer, with-begun}
-use Rattle.model.specs.Writing.{variable-answer, name-variable, move-answer, begin-move, enter-condition, enter-effect, enter-start, enter-goal}
+use Rattle.model.specs.Tables.{Answer, begun, begin-answer, with-begun}
+use Rattle.model.specs.Writing.{if-done, variable-answer, name-variable, move-answer, begin-move, enter-condition, enter-effect, enter-start, enter-goal}
 use Rattle.desk.specs.Steps.{Phase, naming, writing, ending, Turned, goes, seals, refuses, step}
 use Rattle.desk.specs.ModelPart.{ModelEnd, stopped, sealed, turned-to, model-part}
 use Rattle.desk.specs.InOrder.{one-of, only, begins-with, variable-named, if-begun, moves-named, In-order, Commands-of-a-model-stand-in-order}
@@ -52,6 +52,10 @@ names-set (x ∷ xs) (suc n) m same = ap (λ l. x .name ∷ l) (names-set xs n m
 
 names-begun : (ms : List Move) (name : List ℕ) → isOk (begin-answer ms) ≡ true → names (with-begun ms name) ≡ names ms ++ name ∷ []
 names-begun ms name fits = ap (λ q. names (cond q (ms ++ begun name ∷ []) ms)) fits ∙ names-append ms (begun name ∷ [])
+
+-- a step that is done
+is-done : (a : Answer) (e d : ModelRecord) → isOk a ≡ true → if-done a e d ≡ e
+is-done a e d done = ap (λ q. cond {A = ModelRecord} q e d) done
 
 -- the commands from the first S or G on
 record Ends-stand (d d' : ModelRecord) (items rest : List Item) : Type 0 where
@@ -112,10 +116,10 @@ module _ (end : ℕ) (i : Item) (is rest : List Item) (d' : ModelRecord) where
   ends-went : (q : Phase) (d e : ModelRecord) → model-part end q e is ≡ sealed d' rest → Later ending (λ e. Ends-stand e d' is rest) → Went ending q d e (i .said) → Ends-stand d d' (i ∷ is) rest
   ends-went q d e h later (named-one p to said fits made) = naming-not-ending p
   ends-went q d e h later (begun-one p to said fits made) = absurd (p refl)
-  ends-went q d e h later (entered-condition p to said made) = writing-not-ending p
-  ends-went q d e h later (entered-effect p to said made) = writing-not-ending p
-  ends-went q d e h later (entered-start to said made) = ends-start q d e 0x53 said refl (ap (λ (m : ModelRecord). m .variables) made) (ap (λ (m : ModelRecord). m .moves) made) to h later
-  ends-went q d e h later (entered-goal to said made) = ends-start q d e 0x47 said refl (ap (λ (m : ModelRecord). m .variables) made) (ap (λ (m : ModelRecord). m .moves) made) to h later
+  ends-went q d e h later (entered-condition p to said fits made) = writing-not-ending p
+  ends-went q d e h later (entered-effect p to said fits made) = writing-not-ending p
+  ends-went q d e h later (entered-start to said fits made) = ends-start q d e 0x53 said refl (ap (λ (m : ModelRecord). m .variables) (made ∙ is-done _ _ d fits)) (ap (λ (m : ModelRecord). m .moves) (made ∙ is-done _ _ d fits)) to h later
+  ends-went q d e h later (entered-goal to said fits made) = ends-start q d e 0x47 said refl (ap (λ (m : ModelRecord). m .variables) (made ∙ is-done _ _ d fits)) (ap (λ (m : ModelRecord). m .moves) (made ∙ is-done _ _ d fits)) to h later
 
 ends-stand : (end : ℕ) (items rest : List Item) (d d' : ModelRecord) → model-part end ending d items ≡ sealed d' rest → Ends-stand d d' items rest
 ends-stand end [] rest d d' h = never-none end ending d d' rest h
@@ -184,10 +188,10 @@ module _ (end : ℕ) (i : Item) (is rest : List Item) (d' : ModelRecord) where
   moves-went : (q : Phase) (d e : ModelRecord) → model-part end q e is ≡ sealed d' rest → Later end i is rest d' writing (λ e. Moves-stand e d' is rest) → Went writing q d e (i .said) → Moves-stand d d' (i ∷ is) rest
   moves-went q d e h later (named-one p to said fits made) = naming-not-writing p
   moves-went q d e h later (begun-one p to said fits made) = move-begun q d e said fits made to h later
-  moves-went q d e h later (entered-condition p to said made) = move-entered q d e 0x50 said refl refl (ap (λ (m : ModelRecord). m .variables) made) (ap (λ (m : ModelRecord). names (m .moves)) made ∙ names-set (d .moves) (length (d .moves) - 1) _ refl) to h later
-  moves-went q d e h later (entered-effect p to said made) = move-entered q d e 0x45 said refl refl (ap (λ (m : ModelRecord). m .variables) made) (ap (λ (m : ModelRecord). names (m .moves)) made ∙ names-set (d .moves) (length (d .moves) - 1) _ refl) to h later
-  moves-went q d e h later (entered-start to said made) = moves-over d d' (i ∷ is) rest (ends-start end i is rest d' q d e 0x53 said refl (ap (λ (m : ModelRecord). m .variables) made) (ap (λ (m : ModelRecord). m .moves) made) to h (λ e. ends-stand end is rest e d'))
-  moves-went q d e h later (entered-goal to said made) = moves-over d d' (i ∷ is) rest (ends-start end i is rest d' q d e 0x47 said refl (ap (λ (m : ModelRecord). m .variables) made) (ap (λ (m : ModelRecord). m .moves) made) to h (λ e. ends-stand end is rest e d'))
+  moves-went q d e h later (entered-condition p to said fits made) = move-entered q d e 0x50 said refl refl (ap (λ (m : ModelRecord). m .variables) (made ∙ is-done _ _ d fits)) (ap (λ (m : ModelRecord). names (m .moves)) (made ∙ is-done _ _ d fits) ∙ names-set (d .moves) (length (d .moves) - 1) _ refl) to h later
+  moves-went q d e h later (entered-effect p to said fits made) = move-entered q d e 0x45 said refl refl (ap (λ (m : ModelRecord). m .variables) (made ∙ is-done _ _ d fits)) (ap (λ (m : ModelRecord). names (m .moves)) (made ∙ is-done _ _ d fits) ∙ names-set (d .moves) (length (d .moves) - 1) _ refl) to h later
+  moves-went q d e h later (entered-start to said fits made) = moves-over d d' (i ∷ is) rest (ends-start end i is rest d' q d e 0x53 said refl (ap (λ (m : ModelRecord). m .variables) (made ∙ is-done _ _ d fits)) (ap (λ (m : ModelRecord). m .moves) (made ∙ is-done _ _ d fits)) to h (λ e. ends-stand end is rest e d'))
+  moves-went q d e h later (entered-goal to said fits made) = moves-over d d' (i ∷ is) rest (ends-start end i is rest d' q d e 0x47 said refl (ap (λ (m : ModelRecord). m .variables) (made ∙ is-done _ _ d fits)) (ap (λ (m : ModelRecord). m .moves) (made ∙ is-done _ _ d fits)) to h (λ e. ends-stand end is rest e d'))
 
 moves-stand : (end : ℕ) (items rest : List Item) (d d' : ModelRecord) → model-part end writing d items ≡ sealed d' rest → Moves-stand d d' items rest
 moves-stand end [] rest d d' h = never-none end writing d d' rest h
@@ -256,10 +260,10 @@ module _ (end : ℕ) (i : Item) (is rest : List Item) (d' : ModelRecord) where
       let vs = named-variables d (getD (i .said .1) 0 0) (drop 1 (i .said .1)) fits in
       variable-first d e d' i is rest said (ap (λ (m : ModelRecord). m .variables) made ∙ vs .0) (ap (λ (m : ModelRecord). m .moves) made ∙ vs .1) (later e (into end i is rest d' naming q e to h))
   all-went q d e h later (begun-one p to said fits made) = variables-over d d' (i ∷ is) rest (move-begun end i is rest d' q d e said fits made to h (λ e. moves-stand end is rest e d')) (eq-eqb _ _ said)
-  all-went q d e h later (entered-condition p to said made) = writing-not-naming p
-  all-went q d e h later (entered-effect p to said made) = writing-not-naming p
-  all-went q d e h later (entered-start to said made) = variables-over d d' (i ∷ is) rest (moves-over d d' (i ∷ is) rest (ends-start end i is rest d' q d e 0x53 said refl (ap (λ (m : ModelRecord). m .variables) made) (ap (λ (m : ModelRecord). m .moves) made) to h (λ e. ends-stand end is rest e d'))) refl
-  all-went q d e h later (entered-goal to said made) = variables-over d d' (i ∷ is) rest (moves-over d d' (i ∷ is) rest (ends-start end i is rest d' q d e 0x47 said refl (ap (λ (m : ModelRecord). m .variables) made) (ap (λ (m : ModelRecord). m .moves) made) to h (λ e. ends-stand end is rest e d'))) refl
+  all-went q d e h later (entered-condition p to said fits made) = writing-not-naming p
+  all-went q d e h later (entered-effect p to said fits made) = writing-not-naming p
+  all-went q d e h later (entered-start to said fits made) = variables-over d d' (i ∷ is) rest (moves-over d d' (i ∷ is) rest (ends-start end i is rest d' q d e 0x53 said refl (ap (λ (m : ModelRecord). m .variables) (made ∙ is-done _ _ d fits)) (ap (λ (m : ModelRecord). m .moves) (made ∙ is-done _ _ d fits)) to h (λ e. ends-stand end is rest e d'))) refl
+  all-went q d e h later (entered-goal to said fits made) = variables-over d d' (i ∷ is) rest (moves-over d d' (i ∷ is) rest (ends-start end i is rest d' q d e 0x47 said refl (ap (λ (m : ModelRecord). m .variables) (made ∙ is-done _ _ d fits)) (ap (λ (m : ModelRecord). m .moves) (made ∙ is-done _ _ d fits)) to h (λ e. ends-stand end is rest e d'))) refl
 
 all-stand : (end : ℕ) (items rest : List Item) (d d' : ModelRecord) → model-part end naming d items ≡ sealed d' rest → All-stand d d' items rest
 unfolding sealed-here moves-over

@@ -25,10 +25,10 @@ split false x y t h then else = else refl h
 pub data Went (p q : Phase) (d e : ModelRecord) (said : Told) : Type 0 where
   named-one : p ≡ naming → q ≡ naming → said .0 ≡ 0x56 → isOk (variable-answer d (getD (said .1) 0 0)) ≡ true → e ≡ name-variable d (getD (said .1) 0 0) (drop 1 (said .1)) → Went p q d e said
   begun-one : (p ≡ ending → ⊥) → q ≡ writing → said .0 ≡ 0x41 → isOk (move-answer d) ≡ true → e ≡ begin-move d (said .1) → Went p q d e said
-  entered-condition : p ≡ writing → q ≡ writing → said .0 ≡ 0x50 → e ≡ enter-condition d (getD (said .1) 0 0) (getD (said .1) 1 0) → Went p q d e said
-  entered-effect : p ≡ writing → q ≡ writing → said .0 ≡ 0x45 → e ≡ enter-effect d (getD (said .1) 0 0) (getD (said .1) 1 0) → Went p q d e said
-  entered-start : q ≡ ending → said .0 ≡ 0x53 → e ≡ enter-start d (getD (said .1) 0 0) (getD (said .1) 1 0) → Went p q d e said
-  entered-goal : q ≡ ending → said .0 ≡ 0x47 → e ≡ enter-goal d (getD (said .1) 0 0) (getD (said .1) 1 0) → Went p q d e said
+  entered-condition : p ≡ writing → q ≡ writing → said .0 ≡ 0x50 → isOk (condition-answer d (getD (said .1) 0 0) (getD (said .1) 1 0)) ≡ true → e ≡ enter-condition d (getD (said .1) 0 0) (getD (said .1) 1 0) → Went p q d e said
+  entered-effect : p ≡ writing → q ≡ writing → said .0 ≡ 0x45 → isOk (effect-answer d (getD (said .1) 0 0) (getD (said .1) 1 0)) ≡ true → e ≡ enter-effect d (getD (said .1) 0 0) (getD (said .1) 1 0) → Went p q d e said
+  entered-start : q ≡ ending → said .0 ≡ 0x53 → isOk (start-answer d (getD (said .1) 0 0) (getD (said .1) 1 0)) ≡ true → e ≡ enter-start d (getD (said .1) 0 0) (getD (said .1) 1 0) → Went p q d e said
+  entered-goal : q ≡ ending → said .0 ≡ 0x47 → isOk (goal-answer d (getD (said .1) 0 0) (getD (said .1) 1 0)) ≡ true → e ≡ enter-goal d (getD (said .1) 0 0) (getD (said .1) 1 0) → Went p q d e said
 
 module _ (q : Phase) (e : ModelRecord) where
   never-refused : {G : Type 0} (r : Refusal) → goes q e ≡ refuses r → G
@@ -54,12 +54,12 @@ module _ (q : Phase) (e : ModelRecord) where
 
   from-condition : (p : Phase) (d : ModelRecord) (said : Told) → said .0 ≡ 0x50 → goes q e ≡ condition-step p d (getD (said .1) 0 0) (getD (said .1) 1 0) → Went p q d e said
   from-condition naming d said is h = never-refused _ h
-  from-condition writing d said is h = accepted _ writing _ h (λ to made fits. entered-condition refl to is made)
+  from-condition writing d said is h = accepted _ writing _ h (λ to made fits. entered-condition refl to is fits made)
   from-condition ending d said is h = never-refused _ h
 
   from-effect : (p : Phase) (d : ModelRecord) (said : Told) → said .0 ≡ 0x45 → goes q e ≡ effect-step p d (getD (said .1) 0 0) (getD (said .1) 1 0) → Went p q d e said
   from-effect naming d said is h = never-refused _ h
-  from-effect writing d said is h = accepted _ writing _ h (λ to made fits. entered-effect refl to is made)
+  from-effect writing d said is h = accepted _ writing _ h (λ to made fits. entered-effect refl to is fits made)
   from-effect ending d said is h = never-refused _ h
 
   from-seal : {G : Type 0} (d : ModelRecord) → goes q e ≡ seal-step d → G
@@ -73,8 +73,8 @@ module _ (q : Phase) (e : ModelRecord) where
       split (eqb (said .0) 0x41) _ _ _ h (λ is w. from-move p d said (eqb-true _ _ is) w) (λ _ h.
       split (eqb (said .0) 0x50) _ _ _ h (λ is w. from-condition p d said (eqb-true _ _ is) w) (λ _ h.
       split (eqb (said .0) 0x45) _ _ _ h (λ is w. from-effect p d said (eqb-true _ _ is) w) (λ _ h.
-      split (eqb (said .0) 0x53) _ _ _ h (λ is w. accepted _ ending _ w (λ to made fits. entered-start to (eqb-true _ _ is) made)) (λ _ h.
-      split (eqb (said .0) 0x47) _ _ _ h (λ is w. accepted _ ending _ w (λ to made fits. entered-goal to (eqb-true _ _ is) made)) (λ _ h.
+      split (eqb (said .0) 0x53) _ _ _ h (λ is w. accepted _ ending _ w (λ to made fits. entered-start to (eqb-true _ _ is) fits made)) (λ _ h.
+      split (eqb (said .0) 0x47) _ _ _ h (λ is w. accepted _ ending _ w (λ to made fits. entered-goal to (eqb-true _ _ is) fits made)) (λ _ h.
       split (eqb (said .0) 0x5a) _ _ _ h (λ is w. from-seal d w) (λ _ w. never-refused _ w)))))))))
 
 module _ (e : ModelRecord) where

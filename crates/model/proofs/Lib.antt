@@ -5,3 +5,4 @@ pub mod Progressions
 pub mod LimitFacts
 pub mod LastMove
 pub mod SealedModel
+pub mod StepFacts

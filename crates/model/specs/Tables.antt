@@ -29,6 +29,7 @@ begun name = record { name = name; conditions = open-row; effects = open-row }
 abbrev pub begin-answer : List Move → Answer
 begin-answer ms = cond (ltb (length ms) 128) (Ok tt) (Err TooMany)
 
+-- the moves with one more, or as they were where it is refused
 abbrev pub with-begun : List Move → List ℕ → List Move
 with-begun ms name = cond (isOk (begin-answer ms)) (ms ++ begun name ∷ []) ms
 

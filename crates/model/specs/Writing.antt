@@ -22,12 +22,16 @@ use Rattle.model.specs.Limits.{size-at, size-fits, complete}
 use Rattle.model.specs.Tables.{Answer, begin-answer, with-begun, last-begun, with-last}
 use Rattle.model.specs.Records.{ModelRecord, record-of}
 
+-- the model e where the step is done, and else the model d as it was
+abbrev pub if-done : Answer → ModelRecord → ModelRecord → ModelRecord
+if-done a e d = cond (isOk a) e d
+
 -- a variable is named where there are less than 32, and its size is from 1 to 16
 abbrev pub variable-answer : ModelRecord → ℕ → Answer
 variable-answer d size = cond (ltb (length (d .variables)) 32) (cond (size-fits size) (Ok tt) (Err SizeOutOfRange)) (Err TooMany)
 
 abbrev pub name-variable : ModelRecord → ℕ → List ℕ → ModelRecord
-name-variable d size name = cond (isOk (variable-answer d size)) (record-of (d .variables ++ record { name = name; size = size } ∷ []) (d .moves) (d .start) (d .goal)) d
+name-variable d size name = if-done (variable-answer d size) (record-of (d .variables ++ record { name = name; size = size } ∷ []) (d .moves) (d .start) (d .goal)) d
 
 abbrev pub with-moves : ModelRecord → List Move → ModelRecord
 with-moves d ms = record-of (d .variables) ms (d .start) (d .goal)
@@ -43,6 +47,7 @@ begin-move d name = with-moves d (with-begun (d .moves) name)
 abbrev pub entry-answer : List Variable → Row → ℕ → ℕ → Answer
 entry-answer vs row i v = cond (ltb i (length vs)) (cond (ltb v (size-at vs i)) (cond (isSome (at row i)) (Err EntryTwice) (Ok tt)) (Err ValueTooLarge)) (Err NoSuchVariable)
 
+-- the row with that entry, or as it was where it is refused
 abbrev pub entered : List Variable → Row → ℕ → ℕ → Row
 entered vs row i v = cond (isOk (entry-answer vs row i v)) (with-entry row i (Some v)) row
 
@@ -58,12 +63,11 @@ with-part Effects m row = record { name = m .name; conditions = m .conditions; e
 abbrev pub part-answer : Part → ModelRecord → ℕ → ℕ → Answer
 part-answer part d i v = entry-answer (d .variables) (part-of part (last-begun (d .moves))) i v
 
--- the move m with an entry of the variable i in one of its rows
-abbrev pub move-entered : Part → List Variable → Move → ℕ → ℕ → Move
-move-entered part vs m i v = with-part part m (entered vs (part-of part m) i v)
+abbrev pub with-part-entry : Part → Move → ℕ → ℕ → Move
+with-part-entry part m i v = with-part part m (with-entry (part-of part m) i (Some v))
 
 abbrev pub enter-part : Part → ModelRecord → ℕ → ℕ → ModelRecord
-enter-part part d i v = with-moves d (with-last (d .moves) (move-entered part (d .variables) (last-begun (d .moves)) i v))
+enter-part part d i v = if-done (part-answer part d i v) (with-moves d (with-last (d .moves) (with-part-entry part (last-begun (d .moves)) i v))) d
 
 abbrev pub condition-answer : ModelRecord → ℕ → ℕ → Answer
 condition-answer = part-answer Conditions
@@ -76,6 +80,10 @@ effect-answer = part-answer Effects
 
 abbrev pub enter-effect : ModelRecord → ℕ → ℕ → ModelRecord
 enter-effect = enter-part Effects
+
+-- the move m with that entry in one of its rows, or as it was where it is refused
+abbrev pub move-entered : Part → List Variable → Move → ℕ → ℕ → Move
+move-entered part vs m i v = with-part part m (entered vs (part-of part m) i v)
 
 -- entries of the start and of the goal
 abbrev pub end-of : End → ModelRecord → Row
@@ -90,7 +98,7 @@ abbrev pub end-answer : End → ModelRecord → ℕ → ℕ → Answer
 end-answer end d i v = entry-answer (d .variables) (end-of end d) i v
 
 abbrev pub enter-end : End → ModelRecord → ℕ → ℕ → ModelRecord
-enter-end end d i v = with-end end d (entered (d .variables) (end-of end d) i v)
+enter-end end d i v = if-done (end-answer end d i v) (with-end end d (with-entry (end-of end d) i (Some v))) d
 
 abbrev pub start-answer : ModelRecord → ℕ → ℕ → Answer
 start-answer = end-answer Start

@@ -1,4 +1,4 @@
-//! What the steps of a model in hand share: steps a value in a row, and opening the start and the goal.
+//! What the steps of a model in hand share: entering a value in a row, and opening the start and the goal.
 ghost use mathlib.Core.Path.{_≡_};
 ghost use mathlib.Core.Bool.{true};
 ghost use Prim.Native.Nat.{_≤_};

@@ -24,7 +24,7 @@ use std::alloc::Global;
 
 impl MoveTable {
     /// An empty table with room for 128 moves.
-    pub fn with_room(heap: Global) -> Result<MoveTable, AllocError>
+    pub(crate) fn with_room(heap: Global) -> Result<MoveTable, AllocError>
         ensures { λ r. ⌜ made r (λ t. table-moves t ≡ []) ⌝ }
     {
         Ok(MoveTable {
@@ -33,7 +33,7 @@ impl MoveTable {
     }
 
     /// Begins a move, with no condition and no effect.
-    pub fn begin(&mut self, name: [u8; 8]) -> Result<(), Refusal>
+    pub(crate) fn begin(&mut self, name: [u8; 8]) -> Result<(), Refusal>
         ensures answer { λ r. ⌜ r ≡ begin-answer (table-moves (now (self .entry))) ⌝ }
         ensures after { λ _. ⌜ table-moves (now (self .exit)) ≡ with-begun (table-moves (now (self .entry))) name ⌝ }
     {
@@ -49,14 +49,14 @@ impl MoveTable {
     }
 
     /// Lends the move begun last. What is written to it stands in the table afterwards.
-    pub fn last(&mut self) -> Option<&mut Move>
+    pub(crate) fn last(&mut self) -> Option<&mut Move>
         ensures { λ r. sem 𝓤 H A (follows-so the-row move-row (name (self .entry)) (nameOf r) (λ w n. n .moves ≡ with-item (now (self .entry) .moves) (vec-len (now (self .entry) .moves) - 1) w) (λ n. n .moves ≡ now (self .entry) .moves)) ∗ ⌜ (isSome r ≡ ltb 0 (vec-len (now (self .entry) .moves))) × found r (λ x. now x ≡ getD (vec-items (now (self .entry) .moves)) (vec-len (now (self .entry) .moves) - 1) (now x)) ⌝ }
     {
         self.moves.last_mut()
     }
 
     /// All moves.
-    pub fn as_slice(&self) -> &[Move]
+    pub(crate) fn as_slice(&self) -> &[Move]
         ensures { λ r. ⌜ now r ≡ table-moves (now (self .entry)) ⌝ }
     {
         self.moves.as_slice()

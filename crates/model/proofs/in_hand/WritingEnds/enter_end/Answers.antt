@@ -9,6 +9,7 @@ use Rattle.model.specs.Limits.{row-fits}
 use Rattle.model.specs.Writing.{entered, entry-answer, end-answer, enter-end, with-end}
 use Rattle.model.specs.Drafts.{ended}
 use Rattle.model.proofs.LimitFacts.{entered-fits}
+use Rattle.model.proofs.StepFacts.{end-step}
 use Rattle.model.proofs.in_hand.WritingEnds.enter_end.Needs as need
 
 pub ghost-self : need.ghost-self
@@ -32,7 +33,7 @@ returns-in-Start c =
     let d = ended (c .args .self .now) in
     record {
       answer = c .enter .ensures .answer ∙ ap (λ l. entry-answer l (d .start) (c .args .variable) (c .args .value)) (c .as-slice .ensures .value) ∙ ap (λ e. end-answer e d (c .args .variable) (c .args .value)) (sym (c .in-Start .is));
-      after = ap (with-end Start d) (c .enter .ensures .after ∙ ap (λ l. entered l (d .start) (c .args .variable) (c .args .value)) (c .as-slice .ensures .value)) ∙ ap (λ e. enter-end e d (c .args .variable) (c .args .value)) (sym (c .in-Start .is));
+      after = ap (with-end Start d) (c .enter .ensures .after ∙ ap (λ l. entered l (d .start) (c .args .variable) (c .args .value)) (c .as-slice .ensures .value)) ∙ end-step Start d (c .args .variable) (c .args .value) ∙ ap (λ e. enter-end e d (c .args .variable) (c .args .value)) (sym (c .in-Start .is));
     }
 
 pub returns-in-Goal : need.returns-in-Goal
@@ -40,5 +41,5 @@ returns-in-Goal c =
     let d = ended (c .args .self .now) in
     record {
       answer = c .enter-in-Goal .ensures .answer ∙ ap (λ l. entry-answer l (d .goal) (c .args .variable) (c .args .value)) (c .as-slice-in-Goal .ensures .value) ∙ ap (λ e. end-answer e d (c .args .variable) (c .args .value)) (sym (c .in-Goal .is));
-      after = ap (with-end Goal d) (c .enter-in-Goal .ensures .after ∙ ap (λ l. entered l (d .goal) (c .args .variable) (c .args .value)) (c .as-slice-in-Goal .ensures .value)) ∙ ap (λ e. enter-end e d (c .args .variable) (c .args .value)) (sym (c .in-Goal .is));
+      after = ap (with-end Goal d) (c .enter-in-Goal .ensures .after ∙ ap (λ l. entered l (d .goal) (c .args .variable) (c .args .value)) (c .as-slice-in-Goal .ensures .value)) ∙ end-step Goal d (c .args .variable) (c .args .value) ∙ ap (λ e. enter-end e d (c .args .variable) (c .args .value)) (sym (c .in-Goal .is));
     }

@@ -9,6 +9,7 @@ use Rattle.model.specs.Writing.{entry-answer, part-of, move-entered, with-move
 use Rattle.model.specs.Drafts.{written}
 use Rattle.model.proofs.LastMove.{lent-is-last, written-last, with-last-some}
 use Rattle.model.proofs.LimitFacts.{entered-in-last-fits}
+use Rattle.model.proofs.StepFacts.{part-step}
 use Rattle.model.proofs.in_hand.WritingMoves.enter_part.Needs as need
 
 pub ghost-self : need.ghost-self
@@ -36,5 +37,5 @@ returns c =
     let entered = c .enter-in-move .ensures .after ∙ ap (λ l. move-entered (c .args .part) l (c .in-Some .last .now) (c .args .variable) (c .args .value)) (c .as-slice .ensures .value) in
     record {
       answer = c .enter-in-move .ensures .answer ∙ (λ k. entry-answer (c .as-slice .ensures .value k) (part-of (c .args .part) (is-last k)) (c .args .variable) (c .args .value));
-      after = ap (with-moves (written self)) (ap vec-items (c .last .follows .0 .1 _) ∙ written-last ms (vec-len table) (c .in-Some .last .now) (table .ok .0) some read (λ m. move-entered (c .args .part) vs m (c .args .variable) (c .args .value)) _ entered);
+      after = ap (with-moves (written self)) (ap vec-items (c .last .follows .0 .1 _) ∙ written-last ms (vec-len table) (c .in-Some .last .now) (table .ok .0) some read (λ m. move-entered (c .args .part) vs m (c .args .variable) (c .args .value)) _ entered) ∙ part-step (c .args .part) (written self) (c .args .variable) (c .args .value);
     }
