@@ -11,9 +11,10 @@ use Rattle.std.specs.Results.{isOk}
 use Rattle.std.specs.declared.result.Result.the-variants.{Ok, Err}
 use Rattle.refusal.specs.declared.Refusal.{Refusal}
 use Rattle.sheet.specs.Reading.{Told}
-use Rattle.model.specs.Records.{ModelRecord, record-of}
-use Rattle.model.specs.Tables.{Answer, begun, with-begun}
-use Rattle.model.specs.Writing.{variable-answer, name-variable, move-answer, begin-move, condition-answer, enter-condition, effect-answer, enter-effect, start-answer, enter-start, goal-answer, enter-goal, seal-answer, with-moves}
+use Rattle.model.specs.Records.{ModelRecord}
+use Rattle.model.specs.Tables.{Answer, begun}
+use Rattle.model.specs.Writing.{if-done, with-move, variable-answer, name-variable, move-answer, begin-move, condition-answer, enter-condition, effect-answer, enter-effect, start-answer, enter-start, goal-answer, enter-goal, seal-answer, with-moves}
+use Rattle.desk.specs.InOrder.{one-of, written-by}
 use Rattle.desk.specs.Steps.{Phase, naming, writing, ending, Turned, goes, seals, refuses, answered, variable-step, move-step, condition-step, effect-step, start-step, goal-step, seal-step, step}
 
 -- what came of a test
@@ -21,14 +22,19 @@ split : {X : Type 0} {G : Type 0} (b : Bool) (x y t : X) → t ≡ cond b x y �
 split true x y t h then else = then refl h
 split false x y t h then else = else refl h
 
--- a step from p to q, from the model d to e, by the command said
+-- a step from p to q, from the model d to e, by the command said, which wrote something
 pub data Went (p q : Phase) (d e : ModelRecord) (said : Told) : Type 0 where
-  named-one : p ≡ naming → q ≡ naming → said .0 ≡ 0x56 → isOk (variable-answer d (getD (said .1) 0 0)) ≡ true → e ≡ name-variable d (getD (said .1) 0 0) (drop 1 (said .1)) → Went p q d e said
-  begun-one : (p ≡ ending → ⊥) → q ≡ writing → said .0 ≡ 0x41 → isOk (move-answer d) ≡ true → e ≡ begin-move d (said .1) → Went p q d e said
-  entered-condition : p ≡ writing → q ≡ writing → said .0 ≡ 0x50 → isOk (condition-answer d (getD (said .1) 0 0) (getD (said .1) 1 0)) ≡ true → e ≡ enter-condition d (getD (said .1) 0 0) (getD (said .1) 1 0) → Went p q d e said
-  entered-effect : p ≡ writing → q ≡ writing → said .0 ≡ 0x45 → isOk (effect-answer d (getD (said .1) 0 0) (getD (said .1) 1 0)) ≡ true → e ≡ enter-effect d (getD (said .1) 0 0) (getD (said .1) 1 0) → Went p q d e said
-  entered-start : q ≡ ending → said .0 ≡ 0x53 → isOk (start-answer d (getD (said .1) 0 0) (getD (said .1) 1 0)) ≡ true → e ≡ enter-start d (getD (said .1) 0 0) (getD (said .1) 1 0) → Went p q d e said
-  entered-goal : q ≡ ending → said .0 ≡ 0x47 → isOk (goal-answer d (getD (said .1) 0 0) (getD (said .1) 1 0)) ≡ true → e ≡ enter-goal d (getD (said .1) 0 0) (getD (said .1) 1 0) → Went p q d e said
+  named-one : p ≡ naming → q ≡ naming → said .0 ≡ 0x56 → e ≡ written-by 0x56 (said .1) d → Went p q d e said
+  begun-one : (p ≡ ending → ⊥) → q ≡ writing → said .0 ≡ 0x41 → e ≡ written-by 0x41 (said .1) d → Went p q d e said
+  entered-part : (b : ℕ) → one-of (0x50 ∷ 0x45 ∷ []) b ≡ true → p ≡ writing → q ≡ writing → said .0 ≡ b → e ≡ written-by b (said .1) d → Went p q d e said
+  entered-end : (b : ℕ) → one-of (0x53 ∷ 0x47 ∷ []) b ≡ true → q ≡ ending → said .0 ≡ b → e ≡ written-by b (said .1) d → Went p q d e said
+
+-- a step that is done
+is-done : (a : Answer) (e d : ModelRecord) → isOk a ≡ true → if-done a e d ≡ e
+is-done a e d done = ap (λ q. cond {A = ModelRecord} q e d) done
+
+move-done : (d : ModelRecord) (name : List ℕ) → isOk (move-answer d) ≡ true → begin-move d name ≡ with-move d name
+move-done d name done = ap (λ q. with-moves d (cond q (d .moves ++ begun name ∷ []) (d .moves))) done
 
 module _ (q : Phase) (e : ModelRecord) where
   never-refused : {G : Type 0} (r : Refusal) → goes q e ≡ refuses r → G
@@ -43,23 +49,23 @@ module _ (q : Phase) (e : ModelRecord) where
   accepted (Err r) p d h then = never-refused r h
 
   from-variable : (p : Phase) (d : ModelRecord) (said : Told) → said .0 ≡ 0x56 → goes q e ≡ variable-step p d (getD (said .1) 0 0) (drop 1 (said .1)) → Went p q d e said
-  from-variable naming d said is h = accepted _ naming _ h (λ to made fits. named-one refl to is fits made)
+  from-variable naming d said is h = accepted _ naming _ h (λ to made fits. named-one refl to is (made ∙ is-done _ _ d fits))
   from-variable writing d said is h = never-refused _ h
   from-variable ending d said is h = never-refused _ h
 
   from-move : (p : Phase) (d : ModelRecord) (said : Told) → said .0 ≡ 0x41 → goes q e ≡ move-step p d (said .1) → Went p q d e said
-  from-move naming d said is h = accepted _ writing _ h (λ to made fits. begun-one (λ no-end. let z : _≡_ {A = ℕ} 0 1 = cc in absurd (omega arith)) to is fits made)
-  from-move writing d said is h = accepted _ writing _ h (λ to made fits. begun-one (λ no-end. let z : _≡_ {A = ℕ} 0 1 = cc in absurd (omega arith)) to is fits made)
+  from-move naming d said is h = accepted _ writing _ h (λ to made fits. begun-one (λ no-end. let z : _≡_ {A = ℕ} 0 1 = cc in absurd (omega arith)) to is (made ∙ move-done d (said .1) fits))
+  from-move writing d said is h = accepted _ writing _ h (λ to made fits. begun-one (λ no-end. let z : _≡_ {A = ℕ} 0 1 = cc in absurd (omega arith)) to is (made ∙ move-done d (said .1) fits))
   from-move ending d said is h = never-refused _ h
 
   from-condition : (p : Phase) (d : ModelRecord) (said : Told) → said .0 ≡ 0x50 → goes q e ≡ condition-step p d (getD (said .1) 0 0) (getD (said .1) 1 0) → Went p q d e said
   from-condition naming d said is h = never-refused _ h
-  from-condition writing d said is h = accepted _ writing _ h (λ to made fits. entered-condition refl to is fits made)
+  from-condition writing d said is h = accepted _ writing _ h (λ to made fits. entered-part 0x50 refl refl to is (made ∙ is-done _ _ d fits))
   from-condition ending d said is h = never-refused _ h
 
   from-effect : (p : Phase) (d : ModelRecord) (said : Told) → said .0 ≡ 0x45 → goes q e ≡ effect-step p d (getD (said .1) 0 0) (getD (said .1) 1 0) → Went p q d e said
   from-effect naming d said is h = never-refused _ h
-  from-effect writing d said is h = accepted _ writing _ h (λ to made fits. entered-effect refl to is fits made)
+  from-effect writing d said is h = accepted _ writing _ h (λ to made fits. entered-part 0x45 refl refl to is (made ∙ is-done _ _ d fits))
   from-effect ending d said is h = never-refused _ h
 
   from-seal : {G : Type 0} (d : ModelRecord) → goes q e ≡ seal-step d → G
@@ -73,8 +79,8 @@ module _ (q : Phase) (e : ModelRecord) where
       split (eqb (said .0) 0x41) _ _ _ h (λ is w. from-move p d said (eqb-true _ _ is) w) (λ _ h.
       split (eqb (said .0) 0x50) _ _ _ h (λ is w. from-condition p d said (eqb-true _ _ is) w) (λ _ h.
       split (eqb (said .0) 0x45) _ _ _ h (λ is w. from-effect p d said (eqb-true _ _ is) w) (λ _ h.
-      split (eqb (said .0) 0x53) _ _ _ h (λ is w. accepted _ ending _ w (λ to made fits. entered-start to (eqb-true _ _ is) fits made)) (λ _ h.
-      split (eqb (said .0) 0x47) _ _ _ h (λ is w. accepted _ ending _ w (λ to made fits. entered-goal to (eqb-true _ _ is) fits made)) (λ _ h.
+      split (eqb (said .0) 0x53) _ _ _ h (λ is w. accepted _ ending _ w (λ to made fits. entered-end 0x53 refl to (eqb-true _ _ is) (made ∙ is-done _ _ d fits))) (λ _ h.
+      split (eqb (said .0) 0x47) _ _ _ h (λ is w. accepted _ ending _ w (λ to made fits. entered-end 0x47 refl to (eqb-true _ _ is) (made ∙ is-done _ _ d fits))) (λ _ h.
       split (eqb (said .0) 0x5a) _ _ _ h (λ is w. from-seal d w) (λ _ w. never-refused _ w)))))))))
 
 module _ (e : ModelRecord) where

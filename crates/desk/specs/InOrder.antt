@@ -1,15 +1,14 @@
--- The commands of a sheet that was opened stand in order, and its model has the variables and moves that they name.
+-- The commands of a model that was sealed stand in order, and the model is what they write.
 use mathlib.Core.Path.{_≡_}
-use mathlib.Core.Bool.{Bool, true, false, _||_}
-use mathlib.Core.List.{List, [], _∷_, _++_, map}
+use mathlib.Core.Bool.{Bool, true, false, cond, _||_}
+use mathlib.Core.List.{List, [], _∷_, _++_}
 use Prim.Native.Nat.{ℕ}
 use lib.Dec.{eqb}
 use lib.ListN.{getD, drop}
 use Rattle.sheet.specs.Commands.{Item}
-use Rattle.model.specs.declared.moves.Move.{Move}
-use Rattle.model.specs.declared.variable.Variable.{Variable}
 use Rattle.model.specs.Limits.{every}
 use Rattle.model.specs.Records.{ModelRecord, blank, Sealed}
+use Rattle.model.specs.Writing.{with-variable, with-move, with-condition, with-effect, with-start, with-goal}
 use Rattle.desk.specs.Steps.{naming}
 use Rattle.desk.specs.ModelPart.{sealed, model-part}
 use Rattle.desk.specs.Openings.{Opened, unsealed, unchosen, ended, orders}
@@ -27,21 +26,22 @@ abbrev pub begins-with : ℕ → List Item → Bool
 begins-with b [] = true
 begins-with b (i ∷ is) = eqb (i .said .0) b
 
--- the variable that a command V names
-abbrev pub variable-named : Item → Variable
-variable-named i = record { name = drop 1 (i .said .1); size = getD (i .said .1) 0 0 }
+-- what a command with the byte b and these operands writes, with nothing refused
+abbrev pub written-by : ℕ → List ℕ → ModelRecord → ModelRecord
+written-by b vs d =
+    cond (eqb b 0x56) (with-variable d (getD vs 0 0) (drop 1 vs))
+    (cond (eqb b 0x41) (with-move d vs)
+    (cond (eqb b 0x50) (with-condition d (getD vs 0 0) (getD vs 1 0))
+    (cond (eqb b 0x45) (with-effect d (getD vs 0 0) (getD vs 1 0))
+    (cond (eqb b 0x53) (with-start d (getD vs 0 0) (getD vs 1 0))
+    (cond (eqb b 0x47) (with-goal d (getD vs 0 0) (getD vs 1 0)) d)))))
 
--- the names in the commands A
-abbrev pub if-begun : Bool → List ℕ → List (List ℕ) → List (List ℕ)
-if-begun true name names = name ∷ names
-if-begun false name names = names
+-- what the commands write one after another
+abbrev pub all-written-by : List Item → ModelRecord → ModelRecord
+all-written-by [] d = d
+all-written-by (i ∷ is) d = all-written-by is (written-by (i .said .0) (i .said .1) d)
 
-abbrev pub moves-named : List Item → List (List ℕ)
-moves-named [] = []
-moves-named (i ∷ is) = if-begun (eqb (i .said .0) 0x41) (i .said .1) (moves-named is)
-
--- The commands of a model d: first V, then A with its P and E, then S and G mixed, then one Z. The variables are those that the
--- V name, in their order, and the moves have the names that the A give.
+-- The commands of a model d: first V, then A with its P and E, then S and G mixed, then one Z; d is what they write.
 pub record In-order (d : ModelRecord) (items rest : List Item) : Type 0 where
   pub variables : List Item
   pub moves : List Item
@@ -53,8 +53,7 @@ pub record In-order (d : ModelRecord) (items rest : List Item) : Type 0 where
   pub a-move-begun-first : begins-with 0x41 moves ≡ true
   pub then-ends : only (0x53 ∷ 0x47 ∷ []) ends ≡ true
   pub then-the-seal : seal .said .0 ≡ 0x5a
-  pub variables-as-named : d .variables ≡ map variable-named variables
-  pub moves-as-named : map (λ (m : Move). m .name) (d .moves) ≡ moves-named moves
+  pub model-as-written : d ≡ all-written-by (variables ++ (moves ++ ends)) blank
 
 unfoldable pub Commands-of-a-model-stand-in-order : Type 0
 Commands-of-a-model-stand-in-order = (end : ℕ) (items rest : List Item) (d : ModelRecord) → model-part end naming blank items ≡ sealed d rest → In-order d items rest

@@ -19,7 +19,7 @@ use Rattle.model.specs.declared.in_hand.End.{End}
 use Rattle.model.specs.declared.in_hand.End.the-variants.{Start, Goal}
 use Rattle.model.specs.Rows.{at, with-entry}
 use Rattle.model.specs.Limits.{size-at, size-fits, complete}
-use Rattle.model.specs.Tables.{Answer, begin-answer, with-begun, last-begun, with-last}
+use Rattle.model.specs.Tables.{Answer, begun, begin-answer, with-begun, last-begun, with-last}
 use Rattle.model.specs.Records.{ModelRecord, record-of}
 
 -- the model e where the step is done, and else the model d as it was
@@ -30,8 +30,11 @@ if-done a e d = cond (isOk a) e d
 abbrev pub variable-answer : ModelRecord → ℕ → Answer
 variable-answer d size = cond (ltb (length (d .variables)) 32) (cond (size-fits size) (Ok tt) (Err SizeOutOfRange)) (Err TooMany)
 
+abbrev pub with-variable : ModelRecord → ℕ → List ℕ → ModelRecord
+with-variable d size name = record-of (d .variables ++ record { name = name; size = size } ∷ []) (d .moves) (d .start) (d .goal)
+
 abbrev pub name-variable : ModelRecord → ℕ → List ℕ → ModelRecord
-name-variable d size name = if-done (variable-answer d size) (record-of (d .variables ++ record { name = name; size = size } ∷ []) (d .moves) (d .start) (d .goal)) d
+name-variable d size name = if-done (variable-answer d size) (with-variable d size name) d
 
 abbrev pub with-moves : ModelRecord → List Move → ModelRecord
 with-moves d ms = record-of (d .variables) ms (d .start) (d .goal)
@@ -39,6 +42,9 @@ with-moves d ms = record-of (d .variables) ms (d .start) (d .goal)
 -- a move is begun where there are less than 128
 abbrev pub move-answer : ModelRecord → Answer
 move-answer d = begin-answer (d .moves)
+
+abbrev pub with-move : ModelRecord → List ℕ → ModelRecord
+with-move d name = with-moves d (d .moves ++ begun name ∷ [])
 
 abbrev pub begin-move : ModelRecord → List ℕ → ModelRecord
 begin-move d name = with-moves d (with-begun (d .moves) name)
@@ -63,20 +69,26 @@ with-part Effects m row = record { name = m .name; conditions = m .conditions; e
 abbrev pub part-answer : Part → ModelRecord → ℕ → ℕ → Answer
 part-answer part d i v = entry-answer (d .variables) (part-of part (last-begun (d .moves))) i v
 
-abbrev pub with-part-entry : Part → Move → ℕ → ℕ → Move
-with-part-entry part m i v = with-part part m (with-entry (part-of part m) i (Some v))
+abbrev pub with-part-entry : Part → ModelRecord → ℕ → ℕ → ModelRecord
+with-part-entry part d i v = let m = last-begun (d .moves) in with-moves d (with-last (d .moves) (with-part part m (with-entry (part-of part m) i (Some v))))
 
 abbrev pub enter-part : Part → ModelRecord → ℕ → ℕ → ModelRecord
-enter-part part d i v = if-done (part-answer part d i v) (with-moves d (with-last (d .moves) (with-part-entry part (last-begun (d .moves)) i v))) d
+enter-part part d i v = if-done (part-answer part d i v) (with-part-entry part d i v) d
 
 abbrev pub condition-answer : ModelRecord → ℕ → ℕ → Answer
 condition-answer = part-answer Conditions
+
+abbrev pub with-condition : ModelRecord → ℕ → ℕ → ModelRecord
+with-condition = with-part-entry Conditions
 
 abbrev pub enter-condition : ModelRecord → ℕ → ℕ → ModelRecord
 enter-condition = enter-part Conditions
 
 abbrev pub effect-answer : ModelRecord → ℕ → ℕ → Answer
 effect-answer = part-answer Effects
+
+abbrev pub with-effect : ModelRecord → ℕ → ℕ → ModelRecord
+with-effect = with-part-entry Effects
 
 abbrev pub enter-effect : ModelRecord → ℕ → ℕ → ModelRecord
 enter-effect = enter-part Effects
@@ -97,17 +109,26 @@ with-end Goal d row = record-of (d .variables) (d .moves) (d .start) row
 abbrev pub end-answer : End → ModelRecord → ℕ → ℕ → Answer
 end-answer end d i v = entry-answer (d .variables) (end-of end d) i v
 
+abbrev pub with-end-entry : End → ModelRecord → ℕ → ℕ → ModelRecord
+with-end-entry end d i v = with-end end d (with-entry (end-of end d) i (Some v))
+
 abbrev pub enter-end : End → ModelRecord → ℕ → ℕ → ModelRecord
-enter-end end d i v = if-done (end-answer end d i v) (with-end end d (with-entry (end-of end d) i (Some v))) d
+enter-end end d i v = if-done (end-answer end d i v) (with-end-entry end d i v) d
 
 abbrev pub start-answer : ModelRecord → ℕ → ℕ → Answer
 start-answer = end-answer Start
+
+abbrev pub with-start : ModelRecord → ℕ → ℕ → ModelRecord
+with-start = with-end-entry Start
 
 abbrev pub enter-start : ModelRecord → ℕ → ℕ → ModelRecord
 enter-start = enter-end Start
 
 abbrev pub goal-answer : ModelRecord → ℕ → ℕ → Answer
 goal-answer = end-answer Goal
+
+abbrev pub with-goal : ModelRecord → ℕ → ℕ → ModelRecord
+with-goal = with-end-entry Goal
 
 abbrev pub enter-goal : ModelRecord → ℕ → ℕ → ModelRecord
 enter-goal = enter-end Goal
