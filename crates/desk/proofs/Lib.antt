@@ -3,3 +3,4 @@ pub mod ModelRun
 pub mod SheetOpens
 pub mod WentOn
 pub mod StandInOrder
+pub mod OpensInOrder

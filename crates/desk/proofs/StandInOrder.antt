@@ -13,7 +13,7 @@ use Rattle.sheet.specs.Commands.{Item}
 use Rattle.model.specs.Records.{ModelRecord, blank}
 use Rattle.desk.specs.Steps.{Phase, naming, writing, ending, Turned, goes, seals, refuses, step}
 use Rattle.desk.specs.ModelPart.{ModelEnd, stopped, sealed, turned-to, model-part}
-use Rattle.desk.specs.InOrder.{one-of, only, begins-with, written-by, all-written-by, In-order, Commands-of-a-model-stand-in-order}
+use Rattle.desk.specs.InOrder.{one-of, only, begins-with, written-by, all-written-by, In-order}
 use Rattle.desk.proofs.WentOn.{Went, named-one, begun-one, entered-part, entered-end, went, sealed-by}
 
 -- the first command went on, or sealed the model
@@ -216,9 +216,8 @@ all-stand end (i ∷ is) rest d d' h = ⊎-elim
     (λ w. variables-over (moves-over (sealed-here naming d d' i is rest (w .0) (w .1))) refl)
     (unrolled end naming d d' i is rest h)
 
-pub stand-in-order : Commands-of-a-model-stand-in-order
-unfolding Commands-of-a-model-stand-in-order
-stand-in-order end items rest d h =
+pub model-in-order : (end : ℕ) (items rest : List Item) (d : ModelRecord) → model-part end naming blank items ≡ sealed d rest → In-order d items rest
+model-in-order end items rest d h =
     let o = all-stand end items rest blank d h in
     record {
       variables = o .variables;

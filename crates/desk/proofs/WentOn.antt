@@ -18,7 +18,7 @@ use Rattle.desk.specs.InOrder.{one-of, written-by}
 use Rattle.desk.specs.Steps.{Phase, naming, writing, ending, Turned, goes, seals, refuses, answered, variable-step, move-step, condition-step, effect-step, start-step, goal-step, seal-step, step}
 
 -- what came of a test
-split : {X : Type 0} {G : Type 0} (b : Bool) (x y t : X) → t ≡ cond b x y → (b ≡ true → t ≡ x → G) → (b ≡ false → t ≡ y → G) → G
+pub split : {X : Type 0} {G : Type 0} (b : Bool) (x y t : X) → t ≡ cond b x y → (b ≡ true → t ≡ x → G) → (b ≡ false → t ≡ y → G) → G
 split true x y t h then else = then refl h
 split false x y t h then else = else refl h
 

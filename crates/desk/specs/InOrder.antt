@@ -1,4 +1,4 @@
--- The commands of a model that was sealed stand in order, and the model is what they write.
+-- The commands of a sheet that opens stand in order: those of its model, which is what they write, and then that of its detector.
 use mathlib.Core.Path.{_≡_}
 use mathlib.Core.Bool.{Bool, true, false, cond, _||_}
 use mathlib.Core.List.{List, [], _∷_, _++_}
@@ -9,8 +9,7 @@ use Rattle.sheet.specs.Commands.{Item}
 use Rattle.model.specs.Limits.{every}
 use Rattle.model.specs.Records.{ModelRecord, blank, Sealed}
 use Rattle.model.specs.Writing.{with-variable, with-move, with-condition, with-effect, with-start, with-goal}
-use Rattle.desk.specs.Steps.{naming}
-use Rattle.desk.specs.ModelPart.{sealed, model-part}
+use Rattle.desk.specs.Choosing.{Detector}
 use Rattle.desk.specs.Openings.{Opened, unsealed, unchosen, ended, orders}
 
 abbrev pub one-of : List ℕ → ℕ → Bool
@@ -55,8 +54,24 @@ pub record In-order (d : ModelRecord) (items rest : List Item) : Type 0 where
   pub then-the-seal : seal .said .0 ≡ 0x5a
   pub model-as-written : d ≡ all-written-by (variables ++ (moves ++ ends)) blank
 
-unfoldable pub Commands-of-a-model-stand-in-order : Type 0
-Commands-of-a-model-stand-in-order = (end : ℕ) (items rest : List Item) (d : ModelRecord) → model-part end naming blank items ≡ sealed d rest → In-order d items rest
+-- the command i is a D with this kind and these operands
+pub record Chooses (i : Item) (detector : Detector) : Type 0 where
+  pub by-a-detector-command : i .said .0 ≡ 0x44
+  pub kind-and-operands : detector ≡ (getD (i .said .1) 0 0, getD (i .said .1) 1 0 ∷ getD (i .said .1) 2 0 ∷ getD (i .said .1) 3 0 ∷ [])
+
+-- the commands of a model, and behind them the D that chooses the detector
+pub record In-order-with-detector (d : ModelRecord) (detector : Detector) (items : List Item) : Type 0 where
+  pub choice : Item
+  pub rest : List Item
+  pub model-first : In-order d items (choice ∷ rest)
+  pub then-the-detector : Chooses choice detector
+
+-- what the commands of a sheet must be for it to open so
+abbrev pub Stands-in-order : List Item → Opened → Type 0
+Stands-in-order items (unsealed stop) = Unit {0}
+Stands-in-order items (unchosen d stop) = (rest : List Item) × In-order d items rest
+Stands-in-order items (ended d detector) = In-order-with-detector d detector items
+Stands-in-order items (orders d detector place) = In-order-with-detector d detector items
 
 -- where the sheet's model was sealed, it keeps the limits of a model
 abbrev pub Model-is-sealed : Opened → Type 0

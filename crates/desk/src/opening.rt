@@ -2,7 +2,8 @@
 ghost use mathlib.Core.Path.{_≡_};
 ghost use Rattle.std.specs.Vec.{made};
 ghost use Rattle.std.specs.declared.option.Option.the-variants.{Some};
-ghost use Rattle.desk.specs.InOrder.{Model-is-sealed, Commands-of-a-model-stand-in-order};
+ghost use Rattle.sheet.specs.Commands.{commands};
+ghost use Rattle.desk.specs.InOrder.{Model-is-sealed, Stands-in-order};
 ghost use Rattle.desk.specs.Lines.{printed};
 ghost use Rattle.desk.specs.Openings.{behind-model, model-line, stop-line, opening, opening-lines, printed-of};
 ghost use Rattle.desk.specs.Told.{detector-told, opening-told};
@@ -67,7 +68,7 @@ pub fn open_sheet(heap: Global, sheet: &[u8]) -> Result<Opening, AllocError>
     ensures outcome { λ r. ⌜ made r (λ o. opening-told o ≡ opening (now (sheet .entry))) ⌝ }
     ensures printed { λ r. ⌜ made r (λ o. printed (opening-lines (opening-told o)) ≡ printed-of (now (sheet .entry))) ⌝ }
     ensures sealed { λ r. ⌜ made r (λ o. Model-is-sealed (opening-told o)) ⌝ }
-    ensures in_order { λ _. ⌜ Commands-of-a-model-stand-in-order ⌝ }
+    ensures in_order { λ r. ⌜ made r (λ o. Stands-in-order (commands (now (sheet .entry))) (opening-told o)) ⌝ }
 {
     if sheet.len() > LONGEST {
         let stop = Stop {
