@@ -21,5 +21,9 @@ fn run(rt: &LibcRuntime) -> Result<(), AnyError> {
 }
 
 fn main(rt: LibcRuntime) -> Result<(), AnyError> {
-    rt.report(run(&rt))
+    let result = run(&rt);
+    if let Err(error) = &result {
+        eprintln!(rt, "deadend: {error}")?;
+    }
+    result
 }
