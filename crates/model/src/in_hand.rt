@@ -39,6 +39,7 @@ pub struct NamingVariables {
     ghost room: { 32 ≤ vec-cap variables },
     ghost sized: { sizes-fit (vec-items variables) ≡ true },
     ghost none: { length (table-moves moves) ≡ 0 },
+    ghost fit: { moves-fit (vec-items variables) (table-moves moves) ≡ true },
 }
 
 /// A model whose moves are being written. At least one is begun.

@@ -2,9 +2,9 @@ use mathlib.Core.Path.{ap, sym, subst, _∙_}
 use Prim.Native.Nat.{_<_}
 use lib.ListN.{length}
 use Rattle.std.specs.Of.Vec.{vec-items}
-use Rattle.model.specs.Limits.{move-fits, moves-fit}
+use Rattle.model.specs.Limits.{moves-fit}
 use Rattle.model.specs.Tables.{table-moves}
-use Rattle.model.proofs.LimitFacts.{every-none, with-begun-fits, first-begun-some}
+use Rattle.model.proofs.LimitFacts.{with-begun-fits, first-begun-some}
 use Rattle.model.proofs.in_hand.NamingVariables.begin_move.Needs as need
 
 pub ghost-result : need.ghost-result
@@ -17,7 +17,7 @@ ghost-result c =
         self .sized,
         (
           subst (λ l. 0 < length l) (sym (c .begin .ensures .after)) (first-begun-some ms _ (self .none)),
-          (ap (moves-fit vs) (c .begin .ensures .after) ∙ with-begun-fits vs ms _ (every-none (move-fits vs) ms (self .none)), tt),
+          (ap (moves-fit vs) (c .begin .ensures .after) ∙ with-begun-fits vs ms _ (self .fit), tt),
         ),
       ),
     )
