@@ -2,6 +2,7 @@ pub mod BelowFacts
 pub mod RowFacts
 pub mod Containment
 pub mod Progressions
+pub mod PlanStates
 pub mod LimitFacts
 pub mod LastMove
 pub mod SealedModel

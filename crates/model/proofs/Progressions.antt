@@ -17,7 +17,8 @@ use Rattle.model.specs.declared.moves.Move.{Move}
 use Rattle.model.specs.declared.variable.Variable.{Variable}
 use Rattle.model.specs.Rows.{at, keeps, differ, contained, disagree}
 use Rattle.model.specs.Moves.{or-else, next-entry, applicable, progression, successor}
-use Rattle.model.specs.Limits.{size-at, entry-fits, row-fits, complete, no-variable}
+use Rattle.model.specs.Limits.{size-at, entry-fits, row-fits, move-fits, complete, no-variable}
+use Rattle.model.specs.Records.{ModelRecord, state-of-model}
 use Rattle.model.specs.MoveLaws.{Smaller-row-keeps-moves-applicable, Smaller-row-has-smaller-progression, Progression-of-a-state-is-its-successor}
 use Rattle.model.proofs.BelowFacts.{all-below-decides, any-below-decides, any-below-fails}
 use Rattle.model.proofs.RowFacts.{row-ext, at-row-of, open-past}
@@ -119,6 +120,13 @@ module _ (vs : List Variable) (m : Move) (s : Row) (conditions : row-fits vs (m 
       all-below-decides (λ i. isSome (at (progression m s) i)) (length vs) .1
       (λ i l. let given = given-at vs s whole i l in ap isSome (next-is i (within-32 i given)) ∙ or-else-some (at (m .effects) i) (at s i) given)
 
+pub state-progresses : (d : ModelRecord) (m : Move) (s : Row) → move-fits (d .variables) m ≡ true → state-of-model d s ≡ true → state-of-model d (progression m s) ≡ true
+state-progresses d m s fits state =
+    let vs = d .variables in
+    let parts = and-parts (row-fits vs (m .conditions)) (row-fits vs (m .effects)) fits in
+    let of-state = and-parts (row-fits vs s) (complete vs s) state in
+    and-from _ _ (progression-fits vs m s (parts .0) (parts .1) (of-state .0) (of-state .1)) (progression-complete vs m s (parts .0) (parts .1) (of-state .0) (of-state .1))
+
 pub state-successor : Progression-of-a-state-is-its-successor
 unfolding Progression-of-a-state-is-its-successor
 state-successor d m r s fits state within a =
@@ -126,6 +134,6 @@ state-successor d m r s fits state within a =
     let parts = and-parts (row-fits vs (m .conditions)) (row-fits vs (m .effects)) fits in
     let of-state = and-parts (row-fits vs s) (complete vs s) state in (
       progression-is-successor vs m s (parts .0) (parts .1) (of-state .0) (of-state .1),
-      and-from _ _ (progression-fits vs m s (parts .0) (parts .1) (of-state .0) (of-state .1)) (progression-complete vs m s (parts .0) (parts .1) (of-state .0) (of-state .1)),
+      state-progresses d m s fits state,
       smaller-progression-contained m r s within a,
     )

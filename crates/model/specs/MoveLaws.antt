@@ -1,11 +1,14 @@
--- How moves and containment go together, and what a move makes of a state.
+-- How moves and containment go together, and what moves make of a state.
 use mathlib.Core.Path.{_≡_}
 use mathlib.Core.Bool.{true}
+use mathlib.Core.List.{List}
+use Prim.Native.Nat.{ℕ}
 use Rattle.model.specs.declared.row.Row.{Row}
 use Rattle.model.specs.declared.moves.Move.{Move}
 use Rattle.model.specs.Limits.{move-fits}
 use Rattle.model.specs.Moves.{applicable, progression, successor}
-use Rattle.model.specs.Records.{ModelRecord, state-of-model}
+use Rattle.model.specs.Records.{ModelRecord, state-of-model, Sealed}
+use Rattle.model.specs.Plans.{Leads}
 use Rattle.model.specs.Rows.{contained}
 
 -- a move applicable to a row is applicable to every row contained in it
@@ -23,3 +26,9 @@ Progression-of-a-state-is-its-successor =
     (d : ModelRecord) (m : Move) (r s : Row)
     → move-fits (d .variables) m ≡ true → state-of-model d s ≡ true → contained r s ≡ true → applicable m s ≡ true
     → (progression m s ≡ successor m s) × (state-of-model d (progression m s) ≡ true) × (contained (progression m r) (progression m s) ≡ true)
+
+-- In a sealed model the moves of a plan pass through states only: what a state leads to is a state.
+unfoldable pub States-lead-to-states : Type 0
+States-lead-to-states =
+    (d : ModelRecord) (ns : List ℕ) (s t : Row)
+    → Sealed d → state-of-model d s ≡ true → Leads d s ns t → state-of-model d t ≡ true

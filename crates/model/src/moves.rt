@@ -1,7 +1,7 @@
 //! Moves: what each asks of a row, and what it makes of it.
 ghost use mathlib.Core.Path.{_≡_};
 ghost use Rattle.model.specs.Moves.{applicable, next-entry, progression};
-ghost use Rattle.model.specs.MoveLaws.{Smaller-row-keeps-moves-applicable, Smaller-row-has-smaller-progression, Progression-of-a-state-is-its-successor};
+ghost use Rattle.model.specs.MoveLaws.{Smaller-row-keeps-moves-applicable, Smaller-row-has-smaller-progression, Progression-of-a-state-is-its-successor, States-lead-to-states};
 use crate::row::Row;
 
 /// A move: it may be made where the row does not disagree with its conditions, and then its effects hold.
@@ -25,6 +25,7 @@ impl Move {
         ensures answer { λ r. ⌜ r ≡ progression (now (self .entry)) (now (row .entry)) ⌝ }
         ensures applicable { λ _. ⌜ Smaller-row-keeps-moves-applicable ⌝ }
         ensures monotone { λ _. ⌜ Smaller-row-has-smaller-progression ⌝ }
+        ensures states { λ _. ⌜ States-lead-to-states ⌝ }
         ensures successor { λ _. ⌜ Progression-of-a-state-is-its-successor ⌝ }
     {
         let mut entries = [None; 32];

@@ -7,6 +7,7 @@ use lib.ListN.{length, length-set}
 use lib.Seq.{getD-set-same, getD-set-other}
 use Rattle.model.proofs.RowFacts.{row-ext, at-row-of}
 use Rattle.model.proofs.Progressions.{smaller-applicable, smaller-progression, state-successor}
+use Rattle.model.proofs.PlanStates.{states-lead-to-states}
 use Rattle.model.proofs.moves.Move.progression.Needs as need
 
 pub loop-variable-again : need.loop-variable-again
@@ -25,5 +26,6 @@ returns c = record {
   answer = row-ext _ _ (λ k l. c .loop-variable .inv .1 k (omega arith) ∙ sym (at-row-of _ k l));
   applicable = smaller-applicable;
   monotone = smaller-progression;
+  states = states-lead-to-states;
   successor = state-successor;
 }
