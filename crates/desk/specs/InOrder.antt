@@ -25,7 +25,7 @@ abbrev pub begins-with : ℕ → List Item → Bool
 begins-with b [] = true
 begins-with b (i ∷ is) = eqb (i .said .0) b
 
--- what a command with the byte b and these operands writes, with nothing refused
+-- what a command with the byte b and these operands writes, where it is not refused
 abbrev pub written-by : ℕ → List ℕ → ModelRecord → ModelRecord
 written-by b vs d =
     cond (eqb b 0x56) (with-variable d (getD vs 0 0) (drop 1 vs))
@@ -54,7 +54,7 @@ pub record In-order (d : ModelRecord) (items rest : List Item) : Type 0 where
   pub then-the-seal : seal .said .0 ≡ 0x5a
   pub model-as-written : d ≡ all-written-by (variables ++ (moves ++ ends)) blank
 
--- the command i is a D with this kind and these operands
+-- the command i is a D whose operands are this kind and these variables
 pub record Chooses (i : Item) (detector : Detector) : Type 0 where
   pub by-a-detector-command : i .said .0 ≡ 0x44
   pub kind-and-operands : detector ≡ (getD (i .said .1) 0 0, getD (i .said .1) 1 0 ∷ getD (i .said .1) 2 0 ∷ getD (i .said .1) 3 0 ∷ [])
@@ -66,7 +66,7 @@ pub record In-order-with-detector (d : ModelRecord) (detector : Detector) (items
   pub model-first : In-order d items (choice ∷ rest)
   pub then-the-detector : Chooses choice detector
 
--- what the commands of a sheet must be for it to open so
+-- what the way in which a sheet opens says of its commands
 abbrev pub Stands-in-order : List Item → Opened → Type 0
 Stands-in-order items (unsealed stop) = Unit {0}
 Stands-in-order items (unchosen d stop) = (rest : List Item) × In-order d items rest

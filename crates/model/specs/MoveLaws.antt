@@ -27,7 +27,7 @@ Progression-of-a-state-is-its-successor =
     → move-fits (d .variables) m ≡ true → state-of-model d s ≡ true → contained r s ≡ true → applicable m s ≡ true
     → (progression m s ≡ successor m s) × (state-of-model d (progression m s) ≡ true) × (contained (progression m r) (progression m s) ≡ true)
 
--- In a sealed model the moves of a plan pass through states only: what a state leads to is a state.
+-- In a sealed model, whatever moves lead to from a state is a state; so a plan passes through states only.
 unfoldable pub States-lead-to-states : Type 0
 States-lead-to-states =
     (d : ModelRecord) (ns : List ℕ) (s t : Row)
