@@ -1,24 +1,23 @@
 -- The commands of a sheet that opens stand in order.
-use mathlib.Core.Path.{_≡_, refl, sym, ap, subst, _∙_}
+use mathlib.Core.Path.{_≡_, refl, sym, ap, subst}
 use mathlib.Core.Bool.{Bool, true, false, cond}
 use mathlib.Core.List.{List, [], _∷_}
 use Prim.Native.Nat.{ℕ}
 use native.Mathlib.Omega.{arith}
 use lib.Dec.{eqb, ltb}
-use lib.ListN.{length, getD}
+use lib.ListN.{length}
 use borrow.Author.Tests.{eqb-true}
 use Rattle.std.specs.declared.result.Result.{Result}
 use Rattle.std.specs.declared.result.Result.the-variants.{Ok, Err}
 use Rattle.refusal.specs.declared.Refusal.{Refusal}
-use Rattle.sheet.specs.Reading.{Told}
 use Rattle.sheet.specs.Commands.{Item, commands}
 use Rattle.model.specs.declared.variable.Variable.{Variable}
 use Rattle.model.specs.Records.{ModelRecord, blank}
 use Rattle.desk.specs.declared.opening.Stop.{Stop}
 use Rattle.desk.specs.Steps.{naming}
-use Rattle.desk.specs.ModelPart.{ModelEnd, stopped, sealed, stop-at, model-part}
+use Rattle.desk.specs.ModelPart.{ModelEnd, stopped, sealed, model-part}
 use Rattle.desk.specs.Choosing.{Detector, Choice, operands-fit, kind-answer, choice-answer, chosen-at, detector-part}
-use Rattle.desk.specs.Openings.{Opened, unsealed, unchosen, ended, orders, behind-model, opened-by, opening}
+use Rattle.desk.specs.Openings.{Opened, unsealed, ended, orders, behind-model, opened-by, opening}
 use Rattle.desk.specs.InOrder.{In-order, Chooses, In-order-with-detector, Stands-in-order}
 use Rattle.desk.proofs.StandInOrder.{model-in-order}
 use Rattle.desk.proofs.WentOn.{split}

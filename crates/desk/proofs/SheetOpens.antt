@@ -18,7 +18,7 @@ use Rattle.desk.specs.Told.{opening-told}
 use Rattle.desk.specs.Steps.{naming}
 use Rattle.desk.specs.ModelPart.{ModelEnd, sealed, model-part}
 use Rattle.desk.specs.Choosing.{Detector, detector-part}
-use Rattle.desk.specs.Openings.{Opened, unsealed, behind-model, opened-by, opening}
+use Rattle.desk.specs.Openings.{unsealed, behind-model, opened-by, opening}
 
 module _ (sheet : List ℕ) where
   pub too-long : 65536 < length sheet → unsealed (record { refusal = TooMany; place = 65536 }) ≡ opening sheet

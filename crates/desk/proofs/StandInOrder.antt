@@ -1,18 +1,17 @@
 -- The commands of a model that was sealed stand in order, and the model is what they write.
 use mathlib.Core.Path.{_≡_, refl, sym, ap, subst, _∙_}
-use mathlib.Core.Bool.{Bool, true, false}
+use mathlib.Core.Bool.{true}
 use mathlib.Core.List.{List, [], _∷_, _++_}
 use mathlib.Core.Logic.{_⊎_, inl, inr, ⊎-elim}
 use Prim.Native.Nat.{ℕ}
 use native.Mathlib.Omega.{arith}
-use lib.Dec.{eqb}
 use borrow.Author.Tests.{eq-eqb}
 use Rattle.std.proofs.shelf.Tests.{and-from}
 use Rattle.std.proofs.shelf.Ways.{tells}
 use Rattle.sheet.specs.Commands.{Item}
 use Rattle.model.specs.Records.{ModelRecord, blank}
 use Rattle.desk.specs.Steps.{Phase, naming, writing, ending, Turned, goes, seals, refuses, step}
-use Rattle.desk.specs.ModelPart.{ModelEnd, stopped, sealed, turned-to, model-part}
+use Rattle.desk.specs.ModelPart.{sealed, turned-to, model-part}
 use Rattle.desk.specs.InOrder.{one-of, only, begins-with, written-by, all-written-by, In-order}
 use Rattle.desk.proofs.WentOn.{Went, named-one, begun-one, entered-part, entered-end, went, sealed-by}
 

@@ -1,5 +1,5 @@
 -- What a command must have been for the model to go on, or to be sealed.
-use mathlib.Core.Path.{_≡_, refl, sym, ap, _∙_}
+use mathlib.Core.Path.{_≡_, refl, ap, _∙_}
 use mathlib.Core.Bool.{Bool, true, false, cond}
 use mathlib.Core.List.{List, [], _∷_, _++_}
 use Prim.Native.Nat.{ℕ}
@@ -13,9 +13,9 @@ use Rattle.refusal.specs.declared.Refusal.{Refusal}
 use Rattle.sheet.specs.Reading.{Told}
 use Rattle.model.specs.Records.{ModelRecord}
 use Rattle.model.specs.Tables.{Answer, begun}
-use Rattle.model.specs.Writing.{if-done, with-move, variable-answer, name-variable, move-answer, begin-move, condition-answer, enter-condition, effect-answer, enter-effect, start-answer, enter-start, goal-answer, enter-goal, seal-answer, with-moves}
+use Rattle.model.specs.Writing.{if-done, with-move, move-answer, begin-move, seal-answer, with-moves}
 use Rattle.desk.specs.InOrder.{one-of, written-by}
-use Rattle.desk.specs.Steps.{Phase, naming, writing, ending, Turned, goes, seals, refuses, answered, variable-step, move-step, condition-step, effect-step, start-step, goal-step, seal-step, step}
+use Rattle.desk.specs.Steps.{Phase, naming, writing, ending, goes, seals, refuses, answered, variable-step, move-step, condition-step, effect-step, seal-step, step}
 
 -- what came of a test
 pub split : {X : Type 0} {G : Type 0} (b : Bool) (x y t : X) → t ≡ cond b x y → (b ≡ true → t ≡ x → G) → (b ≡ false → t ≡ y → G) → G

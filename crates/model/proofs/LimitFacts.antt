@@ -1,5 +1,5 @@
 -- What keeps a model within its limits.
-use mathlib.Core.Path.{_≡_, refl, sym, ap, _∙_}
+use mathlib.Core.Path.{_≡_, refl, ap, _∙_}
 use mathlib.Core.Bool.{Bool, true, false, cond}
 use mathlib.Core.List.{List, [], _∷_, _++_}
 use mathlib.Core.Logic.{_≢_, _⊎_, ⊎-elim}
@@ -11,11 +11,10 @@ use Rattle.std.proofs.shelf.Tests.{and-from, and-parts, cases-eq, cond-both, lt
 use Rattle.std.proofs.shelf.Ways.{tells}
 use Rattle.std.specs.Results.{isOk}
 use Rattle.std.specs.declared.option.Option.the-variants.{Some, None}
-use Rattle.std.specs.declared.result.Result.the-variants.{Ok}
 use Rattle.model.specs.declared.row.Row.{Row}
 use Rattle.model.specs.declared.moves.Move.{Move}
 use Rattle.model.specs.declared.variable.Variable.{Variable}
-use Rattle.model.specs.Rows.{at, open-row, with-entry}
+use Rattle.model.specs.Rows.{open-row, with-entry}
 use Rattle.model.specs.Limits.{every, size-at, entry-fits, row-fits, move-fits, moves-fit}
 use Rattle.model.specs.Tables.{begun, begin-answer, with-begun, last-begun, with-last}
 use Rattle.model.specs.declared.in_hand.Part.{Part}

@@ -1,12 +1,12 @@
 -- The moves of a plan pass through states only.
-use mathlib.Core.Path.{_≡_, ap, subst, sym, _∙_}
+use mathlib.Core.Path.{_≡_, subst}
 use mathlib.Core.Bool.{Bool, true}
 use mathlib.Core.List.{List, [], _∷_}
 use Prim.Native.Nat.{ℕ, zero, suc}
 use native.Mathlib.Omega.{arith}
 use Rattle.std.proofs.shelf.Tests.{and-parts}
 use Rattle.std.specs.Runs.{nth}
-use Rattle.std.specs.declared.option.Option.the-variants.{Some, None}
+use Rattle.std.specs.declared.option.Option.the-variants.{Some}
 use Rattle.model.specs.declared.row.Row.{Row}
 use Rattle.model.specs.Limits.{every, move-fits}
 use Rattle.model.specs.Plans.{Leads}

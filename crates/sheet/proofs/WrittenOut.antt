@@ -1,8 +1,8 @@
 -- Commands that are written out are read back.
-use mathlib.Core.Path.{_≡_, refl, sym, ap, _∙_}
+use mathlib.Core.Path.{_≡_, refl, ap, _∙_}
 use mathlib.Core.Bool.{Bool, true, false, cond}
 use mathlib.Core.List.{List, [], _∷_, _++_}
-use Prim.Native.Nat.{ℕ, zero, suc, _+_, _-_, _≤_, _<_}
+use Prim.Native.Nat.{ℕ, zero, suc, _+_, _-_, _≤_}
 use native.Mathlib.Omega.{arith}
 use lib.Dec.{leb}
 use lib.ListN.{length, take, drop, length-append, take-append-drop}
@@ -13,7 +13,7 @@ use Rattle.std.specs.declared.option.Option.{Option}
 use Rattle.std.specs.declared.option.Option.the-variants.{Some, None}
 use Rattle.std.proofs.shelf.Lists.{take-at, drop-at}
 use Rattle.sheet.specs.Reading.{Told, width, reading, reading-of, is-fault}
-use Rattle.sheet.specs.Commands.{item-at, listed, commands-from}
+use Rattle.sheet.specs.Commands.{listed, commands-from}
 use Rattle.sheet.specs.Laws.{written-out, Formed, placed-from, Reading-loses-no-byte, Commands-written-out-read-back}
 
 abbrev again : Told × List ℕ → List ℕ
