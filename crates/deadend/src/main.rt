@@ -1,4 +1,6 @@
 //! Reads a sheet from standard input, and prints what comes of it.
+#![tactic(auto)]
+
 use anyhow::anyhow;
 use desk::opening::{Opening, open_sheet};
 use std::io::Read;

@@ -1,4 +1,6 @@
 //! The desk: a sheet is carried out, command by command. So far up to the choice of a detector.
+#![tactic(auto)]
+
 mod choosing;
 pub mod lines;
 mod model_part;

@@ -1,4 +1,6 @@
 //! What a detector is: a sealed model, and a set of that model's rows which it calls dead. It is asked two questions.
+#![tactic(auto)]
+
 ghost use Rattle.std.specs.Prelude.{◌≡◌, Bool, true};
 ghost use Rattle.model.specs.declared.row.Row.{Row as AnyRow};
 ghost use Rattle.model.specs.Drafts.{recorded};

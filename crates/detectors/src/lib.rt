@@ -1,4 +1,6 @@
 //! The detectors that ship: bare, relaxed and pattern.
+#![tactic(auto)]
+
 pub mod bare;
 pub mod making;
 pub mod pattern;

@@ -1,4 +1,6 @@
 //! The first-come list: it keeps each item once, in order of arrival, in places that somebody lends.
+#![tactic(auto)]
+
 pub mod list;
 pub mod listed;
 pub mod same;

@@ -3,10 +3,10 @@ use Rattle.std.proofs.Common.{◌≡◌, ℕ, ◌<◌, Bool, true, Some, None, D
 use Rattle.std.proofs.lemmas.Bool.{eq-eqb, eqb-true, false≢true}
 use Rattle.std.proofs.lemmas.Bool.Decides.{nat_tests}
 use Rattle.model.specs.declared.row.Row.{Row}
-use Rattle.model.specs.Rows.{at, keeps, same_entry, contained, same_row}
+use Rattle.model.specs.Rows.{at, keeps, contained, same_row}
 use Rattle.model.specs.RowLaws.{ContainmentIsReflexive, ContainmentIsTransitive, ContainmentIsAntisymmetric}
 use Rattle.model.proofs.BelowFacts.{all_below_decides}
-use Rattle.model.proofs.RowFacts.{row_ext}
+use Rattle.model.specs.SameRows.{row_ext, same_row_decides}
 
 -- what containment says, entry by entry
 pub contained_at : (r t : Row) → contained r t ≡ true → (i : ℕ) → i < 32 → keeps (at r i) (at t i) ≡ true
@@ -24,19 +24,6 @@ keeps_trans None b c p q = refl
 keeps_trans (Some v) None c p q = absurd (false≢true p)
 keeps_trans (Some v) (Some w) None p q = absurd (false≢true q)
 keeps_trans (Some v) (Some w) (Some x) p q = grind (arith, nat_tests)
-
-same_entry_decides : (a b : Option ℕ) → Decides (same_entry a b) (a ≡ b)
-same_entry_decides None None = ((λ _. refl), λ _. refl)
-same_entry_decides None (Some w) = ((λ h. absurd (false≢true h)), λ e. let z : ◌≡◌ {A = ℕ} 0 1 = cc in absurd (omega arith))
-same_entry_decides (Some v) None = ((λ h. absurd (false≢true h)), λ e. let z : ◌≡◌ {A = ℕ} 0 1 = cc in absurd (omega arith))
-same_entry_decides (Some v) (Some w) = ((λ h. ap (λ n. Some n) (eqb-true v w h)), λ e. eq-eqb v w (cc))
-
--- rows have the same entries exactly if they are equal
-pub same_row_decides : (r t : Row) → Decides (same_row r t) (r ≡ t)
-same_row_decides r t = (
-  (λ h. row_ext r t (λ i l. (same_entry_decides (at r i) (at t i)).0 ((all_below_decides (λ k. same_entry (at r k) (at t k)) 32).0 h i l))),
-  λ e. (all_below_decides (λ k. same_entry (at r k) (at t k)) 32).1 (λ i l. (same_entry_decides (at r i) (at t i)).1 (ap (λ x. at x i) e)),
-)
 
 -- an answer that is the test says whether the rows are equal
 pub told_same : {answer : Bool} (r t : Row) → answer ≡ same_row r t → (answer ≡ same_row r t) × Decides answer (r ≡ t)

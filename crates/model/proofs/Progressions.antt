@@ -1,5 +1,5 @@
 -- Moves keep containment, and take states to states.
-use Rattle.std.proofs.Common.{◌≡◌, ℕ, ◌<◌, ◌≤◌, true, false, not, ◌⊎◌, List, length, is_some, Some, None, Option, sym, refl, ap, ◌∙◌, ⊎_elim, arith}
+use Rattle.std.proofs.Common.{◌≡◌, ℕ, ◌<◌, ◌≤◌, true, false, List, length, is_some, Some, None, Option, sym, refl, ap, ◌∙◌, ⊎_elim, arith}
 use Rattle.std.proofs.lemmas.Bool.{and_from, and_parts, cases_lt, not-true, not_from_false, false≢true}
 use Rattle.std.proofs.lemmas.Bool.Decides.{nat_tests}
 use Rattle.std.proofs.lemmas.List.{get_or_past}
@@ -12,7 +12,8 @@ use Rattle.model.specs.Limits.{size_at, entry_fits, row_fits, move_fits, complet
 use Rattle.model.specs.Records.{ModelRecord, state_of_model}
 use Rattle.model.specs.MoveLaws.{SmallerRowKeepsMovesApplicable, SmallerRowHasSmallerProgression, ProgressionOfAStateIsItsSuccessor}
 use Rattle.model.proofs.BelowFacts.{all_below_decides, any_below_decides, any_below_fails}
-use Rattle.model.proofs.RowFacts.{row_ext, at_row_of, open_past}
+use Rattle.model.specs.SameRows.{row_ext}
+use Rattle.model.proofs.RowFacts.{at_row_of, open_past}
 use Rattle.model.proofs.Containment.{contained_at, contained_from, keeps_refl}
 
 -- the conditions c, the entry a of the smaller row and the entry b of the larger one

@@ -2,6 +2,7 @@ pub mod Below
 pub mod Members
 pub mod Rows
 pub mod RowLaws
+pub mod SameRows
 pub mod Moves
 pub mod Limits
 pub mod Records

@@ -1,4 +1,6 @@
 //! Planning models: rows of entries, moves between them, and the model that is written step by step and then sealed.
+#![tactic(auto)]
+
 pub mod in_hand;
 pub mod moves;
 pub mod row;

@@ -1,4 +1,6 @@
 //! Why a sheet is refused, by cause. The numbers are what the program prints, and are the same for every part.
+#![tactic(auto)]
+
 ghost use Rattle.std.specs.Prelude.{◌≡◌};
 ghost use Rattle.refusal.specs.Numbers.{refusal_number};
 

@@ -1,4 +1,6 @@
 //! The sheet: commands of one byte with operands of fixed widths.
+#![tactic(auto)]
+
 ghost use Rattle.std.specs.Prelude.{◌≡◌, length, nat_le};
 ghost use Rattle.std.specs.Option.{option_map};
 ghost use Rattle.sheet.specs.Reading.{told, reading};

@@ -1,4 +1,6 @@
 //! Runs the sheets that a table names, and compares what is printed of each with what must be.
+#![tactic(auto)]
+
 use desk::opening::open_sheet;
 use std::fs;
 

@@ -1,7 +1,7 @@
 -- Sameness of walked states is an equivalence.
 use Rattle.std.specs.Prelude.{refl}
 use Rattle.model.specs.Rows.{same_row}
-use Rattle.model.proofs.Containment.{same_row_decides}
+use Rattle.model.specs.SameRows.{same_row_decides}
 use Rattle.first_come.specs.Sameness.{Equivalence}
 use Rattle.first_come.proofs.Sameness.{from_equality, by_key}
 use Rattle.walk.specs.declared.walked.Walked.{Walked}

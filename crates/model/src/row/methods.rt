@@ -2,8 +2,7 @@
 ghost use Rattle.std.specs.Prelude.{◌≡◌, Some, Decides};
 ghost use Rattle.model.specs.Rows.{at, filled_row, open_row, with_entry, keeps, differ, same_entry, contained, disagree, same_row};
 ghost use Rattle.model.specs.RowLaws.{ContainmentIsReflexive, ContainmentIsTransitive, ContainmentIsAntisymmetric};
-ghost use Rattle.std.specs.Cmp.Rules.{comparing};
-ghost use Rattle.std.proofs.Common.{rules, arith};
+ghost use Rattle.model.specs.SameRows.{same_row_laws};
 
 use super::Row;
 
@@ -80,11 +79,14 @@ impl Row {
 }
 
 impl PartialEq for Row {
-    ghost equals = { λ x y r. (r ≡ same_row x y) × Decides r (x ≡ y) };
+    ghost eq = { same_row };
 
-    ghost laws = { first_of (Prim.search (comparing, rules), Prim.grind (arith, Self.row.coded.inj)) };
+    ghost laws = { same_row_laws };
 
-    fn eq(&self, other: &Row) -> bool {
+    fn eq(&self, other: &Row) -> bool
+        ensures answer { result ≡ same_row self.now other.now }
+        ensures exact { Decides result (self.now ≡ other.now) }
+    {
         for variable in 0..32 {
             if !entries_same(self.entry(variable), other.entry(variable)) {
                 return false;

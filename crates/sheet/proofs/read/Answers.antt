@@ -88,10 +88,10 @@ returns-in-Some c =
     let some : 1 < length xs = omega (arith, ltb-false) in
     reads_named 1 86 xs refl some first refl parts.0 parts.1 parts.2
 
-pub returns-in-Some-split-first-chunk : goal.returns-in-Some-split-first-chunk
-returns-in-Some-split-first-chunk c =
+pub returns-in-Some-split_first_chunk : goal.returns-in-Some-split_first_chunk
+returns-in-Some-split_first_chunk c =
     let xs = c.args.sheet.now in
-    let parts = c.in-Some-split-first-chunk.ensures.cases in
+    let parts = c.in-Some-split_first_chunk.ensures.cases in
     let first : get_or xs 0 0 ≡ 65 = search rules in
     let some : 0 < length xs = omega (arith, ltb-false) in
     reads_named 0 65 xs refl some first refl parts.0 parts.1 parts.2

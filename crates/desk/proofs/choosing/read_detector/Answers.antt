@@ -9,11 +9,11 @@ use Rattle.desk.proofs.choosing.read_detector.Goals as goal
 abbrev refused : Stop → Result (Detector × ℕ) Stop
 refused stop = Err stop
 
-pub returns-in-default : goal.returns-in-default
-returns-in-default c =
+pub returns-in_default : goal.returns-in_default
+returns-in_default c =
     let sheet = c.args.sheet.now in
     ap refused c.stop_at.ensures
-    ∙ sym (ap (detector_part (length sheet) (recorded c.args.model.now).variables) (commands_none sheet c.args.place c.in-default.ensures.answer))
+    ∙ sym (ap (detector_part (length sheet) (recorded c.args.model.now).variables) (commands_none sheet c.args.place c.in_default.ensures.answer))
 
 pub returns-in-Ok : goal.returns-in-Ok
 returns-in-Ok c =
@@ -26,6 +26,6 @@ pub returns-in-Err : goal.returns-in-Err
 returns-in-Err c =
     let sheet = c.args.sheet.now in
     let item = item_of c.in-Some.found in
-    ap refused c.stop-at-in-Err.ensures
+    ap refused c.stop_at-in-Err.ensures
     ∙ ap (chosen_at (length sheet) item) c.in-Err.ensures
     ∙ sym (ap (detector_part (length sheet) (recorded c.args.model.now).variables) (commands_some sheet c.args.place item c.in-Some.ensures.answer))

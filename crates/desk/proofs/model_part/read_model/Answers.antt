@@ -5,11 +5,11 @@ use Rattle.desk.specs.ModelPart.{stopped}
 use Rattle.desk.proofs.ModelRun.{run_ends, run_refuses, run_seals, run_goes, run_moves_on}
 use Rattle.desk.proofs.model_part.read_model.Goals as goal
 
-pub returns-in-default : goal.returns-in-default
-returns-in-default c =
+pub returns-in_default : goal.returns-in_default
+returns-in_default c =
     let stage = c.loop-found.stage in
     ap stopped c.stop_at.ensures
-    ∙ sym (run_ends c.args.sheet.now c.loop-found.place (phase_of stage) (record_so_far stage) c.in-default.ensures.answer)
+    ∙ sym (run_ends c.args.sheet.now c.loop-found.place (phase_of stage) (record_so_far stage) c.in_default.ensures.answer)
     ∙ c.loop-found.invariant
 
 pub returns-in-Seals : goal.returns-in-Seals
@@ -21,7 +21,7 @@ returns-in-Seals c =
 pub returns-in-Refused : goal.returns-in-Refused
 returns-in-Refused c =
     let stage = c.loop-found.stage in
-    ap stopped c.stop-at-in-Refused.ensures
+    ap stopped c.stop_at-in-Refused.ensures
     ∙ sym (run_refuses c.args.sheet.now c.loop-found.place (phase_of stage) (record_so_far stage) (item_of c.in-Some.found) c.in-Some.ensures.answer _ c.in-Refused.ensures)
     ∙ c.loop-found.invariant
 

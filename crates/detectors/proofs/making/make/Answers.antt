@@ -8,5 +8,5 @@ returns-in-2 c = record { makes = search rules; lawful = shipped_lawful }
 pub returns-in-0 : goal.returns-in-0
 returns-in-0 c = record { makes = search rules; lawful = shipped_lawful }
 
-pub returns-in-default : goal.returns-in-default
-returns-in-default c = record { makes = search rules; lawful = shipped_lawful }
+pub returns-in_default : goal.returns-in_default
+returns-in_default c = record { makes = search rules; lawful = shipped_lawful }

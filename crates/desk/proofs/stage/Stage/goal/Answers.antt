@@ -4,4 +4,4 @@ use Rattle.desk.proofs.Accepting.{goes_on}
 use Rattle.desk.proofs.stage.Stage.goal.Goals as goal
 
 pub returns : goal.returns
-returns c = goes_on c.in-ok-goal.ensures.answer c.goal.ensures.after ∙ ap (λ d. goal_step d c.args.variable c.args.value) c.into-ends-ends.ensures
+returns c = goes_on c.in_ok-goal.ensures.answer c.goal.ensures.after ∙ ap (λ d. goal_step d c.args.variable c.args.value) c.into_ends-ends.ensures

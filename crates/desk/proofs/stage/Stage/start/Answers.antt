@@ -4,4 +4,4 @@ use Rattle.desk.proofs.Accepting.{goes_on}
 use Rattle.desk.proofs.stage.Stage.start.Goals as goal
 
 pub returns : goal.returns
-returns c = goes_on c.in-ok-start.ensures.answer c.start.ensures.after ∙ ap (λ d. start_step d c.args.variable c.args.value) c.into-ends-ends.ensures
+returns c = goes_on c.in_ok-start.ensures.answer c.start.ensures.after ∙ ap (λ d. start_step d c.args.variable c.args.value) c.into_ends-ends.ensures

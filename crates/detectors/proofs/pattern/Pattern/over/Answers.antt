@@ -8,8 +8,8 @@ use Rattle.detectors.proofs.pattern.Pattern.over.Goals as goal
 pub returns-in-Err : goal.returns-in-Err
 returns-in-Err c = record { answer = search rules; model = search rules; lawful = search rules; decides = pattern_decides; worked = worked_pattern_verdicts }
 
-pub returns-in-err-moves : goal.returns-in-err-moves
-returns-in-err-moves c = record { answer = search rules; model = search rules; lawful = search rules; decides = pattern_decides; worked = worked_pattern_verdicts }
+pub returns-in_err-moves : goal.returns-in_err-moves
+returns-in_err-moves c = record { answer = search rules; model = search rules; lawful = search rules; decides = pattern_decides; worked = worked_pattern_verdicts }
 
 pub returns : goal.returns
 returns c = record {

@@ -3,12 +3,12 @@ use Rattle.std.proofs.lemmas.List.{at_drop_more, at_drop_all}
 use Rattle.detectors.specs.CutWalk.{open_cut, some_contains}
 use Rattle.detectors.proofs.pattern.walking.any_contains.Goals as goal
 
-pub returns-then-contained-in : goal.returns-then-contained-in
-returns-then-contained-in c =
+pub returns-then-contained_in : goal.returns-then-contained_in
+returns-then-contained_in c =
     let goal = c.args.goal.now in
     let cuts = c.args.cuts.now in
     let i = c.loop-held.held-index in
-    ap (λ b. b || some_contains goal (drop (i + 1) cuts)) c.if-contained-in.ensures
+    ap (λ b. b || some_contains goal (drop (i + 1) cuts)) c.if-contained_in.ensures
     ∙ sym (at_drop_more (some_contains goal) cuts i open_cut c.loop-held-test.true) ∙ c.loop-held.invariant
 
 pub loop-held-preserved : goal.loop-held-preserved
@@ -16,7 +16,7 @@ loop-held-preserved c =
     let goal = c.args.goal.now in
     let cuts = c.args.cuts.now in
     let i = c.loop-held.held-index in
-    ap (λ b. b || some_contains goal (drop (i + 1) cuts)) c.if-contained-in.ensures
+    ap (λ b. b || some_contains goal (drop (i + 1) cuts)) c.if-contained_in.ensures
     ∙ sym (at_drop_more (some_contains goal) cuts i open_cut c.loop-held-test.true) ∙ c.loop-held.invariant
 
 pub returns : goal.returns

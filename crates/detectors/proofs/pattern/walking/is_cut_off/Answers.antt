@@ -11,8 +11,8 @@ use Rattle.detectors.specs.CutMarks.{mark_of}
 use Rattle.detectors.specs.CutWalk.{open_cut, walk_from, walked, some_contains, cut_off}
 use Rattle.detectors.proofs.pattern.walking.is_cut_off.Goals as goal
 
-pub list-cut-requires : goal.list-cut-requires
-list-cut-requires c =
+pub list_cut-requires : goal.list_cut-requires
+list_cut-requires c =
     subst (λ k. Agree same_cut mark_of (replicate 4913 false) (arrived k)) (sym c.new-list.ensures.empty) (agree_none same_cut mark_of 4913)
 
 pub returns : goal.returns
@@ -22,7 +22,7 @@ returns c =
     let first = c.args.first in
     let blank : Kept Cut = kept (replicate 512 open_cut) 0 in
     let empty : contents c.new-list.result ≡ blank = c.new-list.ensures.empty in
-    let begun = c.list-cut.ensures.kept ∙ ap (λ k. keep same_cut k first) empty in
+    let begun = c.list_cut.ensures.kept ∙ ap (λ k. keep same_cut k first) empty in
     let long = (grows_keep same_cut blank first).long ∙ length-replicate 512 open_cut in
     let done = c.walk.ensures.kept ∙ ap (λ k. walk_from (length k.places) 0 k ms) begun ∙ ap (λ n. walk_from n 0 (keep same_cut blank first) ms) long in
-    ap not (c.any-contains.ensures ∙ ap (some_contains c.args.goal.now) (c.as-slice.ensures ∙ ap arrived done))
+    ap not (c.any_contains.ensures ∙ ap (some_contains c.args.goal.now) (c.as_slice.ensures ∙ ap arrived done))

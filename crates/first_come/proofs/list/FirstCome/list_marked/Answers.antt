@@ -10,10 +10,10 @@ returns-then-put g c =
     let before = contents c.args.self.now in
     let marks = c.args.marks.now in
     let kept : contents c.put.new.self ≡ keep_by_mark same before marks c.args.mark c.args.item = search rules in
-    let marked : c.set-mark.new.marks ≡ marks_after same before marks c.args.mark c.args.item = search rules in
+    let marked : c.set_mark.new.marks ≡ marks_after same before marks c.args.mark c.args.item = search rules in
     record {
       kept = kept;
       marked = marked;
       lender = search rules;
-      as-listed = kept_as_listed_after same before _ marks _ c.args.mark c.args.item kept marked;
+      as_listed = kept_as_listed_after same before _ marks _ c.args.mark c.args.item kept marked;
     }

@@ -4,10 +4,10 @@ use Rattle.first_come.specs.Arrivals.{has, place_of, found_at}
 use Rattle.first_come.proofs.Arrivals.{has_at, place_at}
 use Rattle.first_come.proofs.list.methods.find.Goals as goal
 
-pub returns-then-same-as : goal.returns-then-same-as
-returns-then-same-as g c =
+pub returns-then-same_as : goal.returns-then-same_as
+returns-then-same_as g c =
     let same = g.T.Same.same in
-    let e = c.if-same-as.ensures in
+    let e = c.if-same_as.ensures in
     let h = rw (sym e) at (has_at same c.args.items.now c.args.item.now c.loop-place.place _ c.loop-place-test.true c.index-items-place.is) in
     let p = rw (sym e) at (place_at same c.args.items.now c.args.item.now c.loop-place.place _ c.loop-place-test.true c.index-items-place.is) in
     let found : has same c.args.items.now c.args.item.now ≡ true = sym c.loop-place.invariant.0 ∙ h in
@@ -17,7 +17,7 @@ returns-then-same-as g c =
 pub loop-place-preserved : goal.loop-place-preserved
 loop-place-preserved g c =
     let same = g.T.Same.same in
-    let e = c.if-same-as.ensures in
+    let e = c.if-same_as.ensures in
     let h = rw (sym e) at (has_at same c.args.items.now c.args.item.now c.loop-place.place _ c.loop-place-test.true c.index-items-place.is) in
     let p = rw (sym e) at (place_at same c.args.items.now c.args.item.now c.loop-place.place _ c.loop-place-test.true c.index-items-place.is) in
     (sym h ∙ c.loop-place.invariant.0, omega (arith, p, c.loop-place.invariant.1))

@@ -5,8 +5,14 @@ use Rattle.model.specs.Tables.{table_moves}
 use Rattle.model.proofs.LimitFacts.{every_none, every_push}
 use Rattle.model.proofs.in_hand.NamingVariables.name_variable.Goals as goal
 
-pub invariant-of-self : goal.invariant-of-self
-invariant-of-self c =
+pub invariant_of-self : goal.invariant_of-self
+invariant_of-self c =
     let self = c.args.self.now in
     let fits : size_fits c.args.size ≡ true = grind (arith, nat_tests) in
-    (omega arith, (omega arith, (rw c.push-reserved.ensures.items (every_push (λ v. size_fits v.size) (vec_items self.variables) _ self.sized fits), (self.none, (every_none (move_fits _) (table_moves self.moves) self.none, tt)))))
+    record {
+      few = omega arith;
+      room = omega arith;
+      sized = rw c.push_reserved.ensures.items (every_push (λ v. size_fits v.size) (vec_items self.variables) _ self.sized fits);
+      none = self.none;
+      fit = every_none (move_fits _) (table_moves self.moves) self.none;
+    }

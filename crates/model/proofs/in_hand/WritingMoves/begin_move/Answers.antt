@@ -4,17 +4,14 @@ use Rattle.model.specs.Tables.{table_moves}
 use Rattle.model.proofs.LimitFacts.{with_begun_fits, with_begun_some}
 use Rattle.model.proofs.in_hand.WritingMoves.begin_move.Goals as goal
 
-pub invariant-of-self : goal.invariant-of-self
-invariant-of-self c =
+pub invariant_of-self : goal.invariant_of-self
+invariant_of-self c =
     let self = c.args.self.now in
     let vs = vec_items self.variables in
-    let ms = table_moves self.moves in (
-      self.few,
-      (
-        self.sized,
-        (
-          subst (λ l. 0 < length l) (sym c.begin.ensures.after) (with_begun_some ms _ self.some),
-          (ap (moves_fit vs) c.begin.ensures.after ∙ with_begun_fits vs ms _ self.fit, tt),
-        ),
-      ),
-    )
+    let ms = table_moves self.moves in
+    record {
+      few = self.few;
+      sized = self.sized;
+      some = subst (λ l. 0 < length l) (sym c.begin.ensures.after) (with_begun_some ms _ self.some);
+      fit = ap (moves_fit vs) c.begin.ensures.after ∙ with_begun_fits vs ms _ self.fit;
+    }

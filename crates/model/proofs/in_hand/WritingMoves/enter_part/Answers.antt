@@ -7,8 +7,8 @@ use Rattle.model.proofs.LimitFacts.{entered_in_last_fits}
 use Rattle.model.proofs.StepFacts.{part_step}
 use Rattle.model.proofs.in_hand.WritingMoves.enter_part.Goals as goal
 
-pub invariant-of-self : goal.invariant-of-self
-invariant-of-self c =
+pub invariant_of-self : goal.invariant_of-self
+invariant_of-self c =
     let self = c.args.self.now in
     let table = self.moves.moves in
     let ms = vec_items table in
@@ -16,9 +16,9 @@ invariant-of-self c =
     let some : 0 < vec_len table = omega (arith, self.some, table.ok.0) in
     let read : c.in-Some.last.now ≡ get_or ms (vec_len table - 1) c.in-Some.last.now = search rules in
     let few : length vs ≤ 32 = omega (arith, self.few, self.variables.ok.0) in
-    let entered = c.enter-in-move.ensures.after ∙ ap (λ l. move_entered c.args.part l c.in-Some.last.now c.args.variable c.args.value) c.as-slice.ensures.value in
+    let entered = c.enter_in_move.ensures.after ∙ ap (λ l. move_entered c.args.part l c.in-Some.last.now c.args.variable c.args.value) c.as_slice.ensures.value in
     let after = ap vec_items (c.last.follows.holds _) ∙ written_last ms (vec_len table) c.in-Some.last.now table.ok.0 some read (λ m. move_entered c.args.part vs m c.args.variable c.args.value) _ entered in
-    (self.few, (self.sized, (subst (λ l. 0 < length l) (sym after) (with_last_some ms _ self.some), (ap (moves_fit vs) after ∙ entered_in_last_fits vs c.args.part ms c.args.variable c.args.value few self.fit, tt))))
+    record { few = self.few; sized = self.sized; some = subst (λ l. 0 < length l) (sym after) (with_last_some ms _ self.some); fit = ap (moves_fit vs) after ∙ entered_in_last_fits vs c.args.part ms c.args.variable c.args.value few self.fit }
 
 pub returns : goal.returns
 returns c =
@@ -29,8 +29,8 @@ returns c =
     let some : 0 < vec_len table = omega (arith, self.some, table.ok.0) in
     let read : c.in-Some.last.now ≡ get_or ms (vec_len table - 1) c.in-Some.last.now = search rules in
     let is_last = lent_is_last ms (vec_len table) c.in-Some.last.now table.ok.0 some read in
-    let entered = c.enter-in-move.ensures.after ∙ ap (λ l. move_entered c.args.part l c.in-Some.last.now c.args.variable c.args.value) c.as-slice.ensures.value in
+    let entered = c.enter_in_move.ensures.after ∙ ap (λ l. move_entered c.args.part l c.in-Some.last.now c.args.variable c.args.value) c.as_slice.ensures.value in
     record {
-      answer = c.enter-in-move.ensures.answer ∙ (λ k. entry_answer (c.as-slice.ensures.value k) (part_of c.args.part (is_last k)) c.args.variable c.args.value);
+      answer = c.enter_in_move.ensures.answer ∙ (λ k. entry_answer (c.as_slice.ensures.value k) (part_of c.args.part (is_last k)) c.args.variable c.args.value);
       after = ap (with_moves (written self)) (ap vec_items (c.last.follows.holds _) ∙ written_last ms (vec_len table) c.in-Some.last.now table.ok.0 some read (λ m. move_entered c.args.part vs m c.args.variable c.args.value) _ entered) ∙ part_step c.args.part (written self) c.args.variable c.args.value;
     }

@@ -2,7 +2,7 @@ use Rattle.std.proofs.Common.{vec_items}
 use Rattle.model.proofs.LimitFacts.{open_fits}
 use Rattle.model.proofs.in_hand.steps.ends_open.Goals as goal
 
-pub invariant-of-result : goal.invariant-of-result
-invariant-of-result c =
+pub invariant_of-result : goal.invariant_of-result
+invariant_of-result c =
     let fits = open_fits (vec_items c.args.variables) in
-    (c.requires.few, (c.requires.sized, (c.requires.fit, (rw c.open.ensures fits, (rw c.open-2.ensures fits, tt)))))
+    record { few = c.requires.few; sized = c.requires.sized; fit = c.requires.fit; starts = rw c.open.ensures fits; goals = rw c.open-2.ensures fits }

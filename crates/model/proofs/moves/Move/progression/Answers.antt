@@ -1,5 +1,6 @@
 use Rattle.std.proofs.Common.{◌<◌, ◌≢◌, length, sym, ◌∙◌, arith, length-set, get_or-set_other, get_or-set_same, below_more}
-use Rattle.model.proofs.RowFacts.{row_ext, at_row_of}
+use Rattle.model.specs.SameRows.{row_ext}
+use Rattle.model.proofs.RowFacts.{at_row_of}
 use Rattle.model.proofs.Progressions.{smaller_applicable, smaller_progression, state_successor}
 use Rattle.model.proofs.PlanStates.{states_lead_to_states}
 use Rattle.model.proofs.moves.Move.progression.Goals as goal

@@ -3,8 +3,8 @@ use Rattle.model.proofs.BelowFacts.{all_below_holds, all_below_fails}
 use Rattle.model.proofs.Containment.{contained_reflexive, contained_transitive, contained_antisymmetric}
 use Rattle.model.proofs.row.Row.contained_in.Goals as goal
 
-pub returns-then-not-entry-kept : goal.returns-then-not-entry-kept
-returns-then-not-entry-kept c = record {
+pub returns-then-not-entry_kept : goal.returns-then-not-entry_kept
+returns-then-not-entry_kept c = record {
   answer = all_below_fails _ 32 c.loop-variable.variable (omega arith) (search rules);
   reflexive = contained_reflexive;
   transitive = contained_transitive;

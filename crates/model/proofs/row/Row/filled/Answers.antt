@@ -1,5 +1,5 @@
 use Rattle.std.proofs.Common.{refl}
-use Rattle.model.proofs.RowFacts.{same_entries}
+use Rattle.model.specs.SameRows.{same_entries}
 use Rattle.model.proofs.row.Row.filled.Goals as goal
 
 pub returns : goal.returns

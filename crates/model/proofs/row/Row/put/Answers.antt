@@ -1,6 +1,6 @@
 use Rattle.std.proofs.Common.{sym, refl, arith}
 use Rattle.std.proofs.lemmas.List.{set_past}
-use Rattle.model.proofs.RowFacts.{same_entries}
+use Rattle.model.specs.SameRows.{same_entries}
 use Rattle.model.proofs.row.Row.put.Goals as goal
 
 pub returns-then-number-lt32 : goal.returns-then-number-lt32

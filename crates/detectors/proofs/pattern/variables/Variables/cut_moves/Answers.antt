@@ -9,7 +9,7 @@ loop-step-preserved c =
     let ms = c.args.moves.now in
     let front = take c.loop-step.step-index ms in
     let more = take_more ms c.loop-step.step-index c.step-item.result c.loop-step-test.true ∙ ap (λ m. front ++ m ∷ []) (sym c.step-item.is) in
-    c.in-ok-push.ensures.items
+    c.in_ok-push.ensures.items
     ∙ ap (λ l. l ++ c.cut_move.result ∷ []) c.loop-step.invariant
     ∙ ap (λ m. map f front ++ m ∷ []) c.cut_move.ensures
     ∙ sym (ap (map f) more ∙ map_push f front c.step-item.result)
