@@ -1,4 +1,4 @@
-use Rattle.std.proofs.Common.{◌≡◌, ℕ, length, Err, Result, sym, ap, ◌∙◌}
+use Rattle.std.proofs.Common.{ℕ, length, Err, Result, sym, ap, ◌∙◌}
 use Rattle.model.specs.Drafts.{recorded}
 use Rattle.sheet.specs.Commands.{item_of}
 use Rattle.sheet.proofs.CommandList.{commands_none, commands_some}

@@ -6,5 +6,5 @@ use Rattle.desk.proofs.stage.Stage.condition.Goals as goal
 
 pub returns-in-Moves : goal.returns-in-Moves
 returns-in-Moves c =
-    goes_on c.in_ok-condition.ensures.answer c.condition.ensures.after
+    goes_on c.in_ok-condition-in-Moves.ensures.answer c.condition.ensures.after
     ∙ ap (λ s. condition_step (phase_of s) (record_so_far s) c.args.variable c.args.value) (sym c.in-Moves.is)
