@@ -4,6 +4,7 @@
 use anyhow::anyhow;
 use desk::opening::{Opening, open_sheet};
 use std::io::Read;
+use std::process::ExitCode;
 
 /// One byte more than a sheet may have, so that a longer one is told. No more is read.
 const MOST: u64 = 65_537;
@@ -21,10 +22,13 @@ fn run(rt: &HostRuntime) -> anyhow::Result<()> {
     }
 }
 
-fn main(rt: HostRuntime) -> anyhow::Result<()> {
-    let result = run(&rt);
-    if let Err(error) = &result {
-        eprintln!(rt; "deadend: {error}")?;
+fn main(rt: HostRuntime) -> ExitCode {
+    match run(&rt) {
+        Ok(()) => ExitCode::SUCCESS,
+        Err(error) => {
+            // Where even this cannot be written, the status is all that tells.
+            let _ = eprintln!(rt; "deadend: {error}");
+            ExitCode::FAILURE
+        }
     }
-    result
 }
