@@ -119,10 +119,10 @@ impl Stage {
     }
 }
 
-fn went(res: Result<Stage, Refusal>) -> Turn
-    ensures { turn_told result ≡ stage_told res }
+fn went(stepped: Result<Stage, Refusal>) -> Turn
+    ensures { turn_told result ≡ stage_told stepped }
 {
-    match res {
+    match stepped {
         Ok(stage) => Turn::Goes(stage),
         Err(refusal) => Turn::Refused(refusal),
     }
