@@ -1,15 +1,14 @@
 -- What a first-come list holds after items came, and when it cannot be full.
-use Rattle.std.proofs.Common.{◌≡◌, ℕ, zero, suc, ◌+◌, ◌-◌, ◌<◌, ◌≤◌, Bool, true, false, cond, ◌||◌, eqb, ltb, ◌⊎◌, List, [], ◌∷◌, ◌++◌, map, length, take, set, replicate, sym, refl, ap, ◌∙◌, subst, inl, inr, ⊎_elim, arith}
+use Rattle.std.proofs.Common.{◌≡◌, ℕ, ◌<◌, ◌≤◌, Bool, true, eqb, ltb, ◌⊎◌, List, [], ◌∷◌, ◌++◌, map, length, sym, refl, ap, ◌∙◌, subst, inl, inr, ⊎_elim, arith}
 use Rattle.std.specs.List.{AllByRecursion as All}
-use Rattle.std.proofs.lemmas.List.{take_more_set, length_push, length-take-le, length-map, length-replicate}
+use Rattle.std.proofs.lemmas.List.{take_more_set, length_push, length-take-le, length-map}
 use Rattle.std.proofs.ByRecursion.{All-push}
-use Rattle.std.proofs.lemmas.Bool.{cond_both, ltb-true, ltb-false, eqb-true, eq-eqb, cases_Bool, or_cases, or_left, or_right, both_ways, false≢true}
-use Rattle.first_come.specs.Sameness.{Equivalence}
-use Rattle.first_come.specs.Arrivals.{Kept, kept, arrived, has, Distinct, keep, keep_all}
-use Rattle.first_come.proofs.Arrivals.{not_true_false, has_push, distinct_push, distinct_keep}
+use Rattle.std.proofs.lemmas.Bool.{cond_both, ltb-true, ltb-false, eqb-true, cases_Bool, or_cases, or_left, or_right, both_ways, false≢true}
+use Rattle.first_come.specs.Arrivals.{Kept, arrived, has, Distinct, keep, keep_all}
+use Rattle.first_come.proofs.Arrivals.{not_true_false, has_push, distinct_push}
 use Rattle.first_come.proofs.Sameness.{from_equality}
 use Rattle.first_come.proofs.Pigeons.{pigeons}
-use Rattle.first_come.proofs.Growth.{Grows, grows_keep}
+use Rattle.first_come.proofs.Growth.{grows_keep}
 
 module _ {T : Type 0} (same : T → T → Bool) where
   -- what is listed was listed before, or is what came

@@ -1,10 +1,10 @@
 -- Listing by marks is listing, where the marks are true.
-use Rattle.std.proofs.Common.{◌≡◌, ℕ, ◌<◌, ◌≤◌, Bool, true, false, cond, not, ◌&&◌, ◌||◌, ltb, ◌≢◌, ◌⊎◌, List, [], ◌∷◌, ◌++◌, length, get_or, set, replicate, Some, None, Option, sym, refl, ap, ◌∙◌, subst, inl, inr, ⊎_elim, arith}
-use Rattle.std.proofs.lemmas.List.{get_or-set_same, get_or-set_other, length-set, get_or-replicate, length-replicate, set_past}
-use Rattle.std.proofs.lemmas.Bool.{cond-true, cond-false, cases_eq, cases_lt, cases_Bool, lt-ltb, le-ltb}
-use Rattle.first_come.specs.Arrivals.{Kept, arrived, has, has_room, with_next, put_unless, keep}
+use Rattle.std.proofs.Common.{◌≡◌, ℕ, ◌<◌, ◌≤◌, Bool, true, false, cond, not, ◌&&◌, ◌||◌, ltb, ◌≢◌, List, [], ◌∷◌, ◌++◌, length, get_or, set, replicate, Some, None, Option, sym, refl, ap, ◌∙◌, subst, ⊎_elim, arith}
+use Rattle.std.proofs.lemmas.List.{get_or-set_same, get_or-set_other, length-set, get_or-replicate, length-replicate}
+use Rattle.std.proofs.lemmas.Bool.{cond-true, cond-false, cases_eq, cases_lt, lt-ltb, le-ltb}
+use Rattle.first_come.specs.Arrivals.{Kept, arrived, has, has_room, put_unless}
 use Rattle.first_come.specs.Marks.{with_mark, held_by_mark, keep_by_mark, marks_after, Marking, Agree, ToldAsListed, KeptAsListed}
-use Rattle.first_come.proofs.Arrivals.{or_false, not_true_false, has_push, arrived_next, put_cases}
+use Rattle.first_come.proofs.Arrivals.{or_false, not_true_false, has_push, arrived_next}
 
 or_true : (a : Bool) → (a || true) ≡ true
 or_true true = refl

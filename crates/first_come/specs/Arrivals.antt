@@ -1,5 +1,5 @@
 -- What a first-come list holds and answers.
-use Rattle.std.specs.Prelude.{◌≡◌, ℕ, suc, ◌+◌, ◌≤◌, Bool, true, false, cond, ◌||◌, List, [], ◌∷◌, ◌++◌, length, take, Some, None, Option, nat_lt, slice_set}
+use Rattle.std.specs.Prelude.{◌≡◌, ℕ, suc, ◌+◌, Bool, false, cond, ◌||◌, List, [], ◌∷◌, ◌++◌, length, take, Some, None, Option, nat_lt, slice_set}
 use Rattle.first_come.specs.declared.listed.Listed.{Listed}
 use Rattle.first_come.specs.declared.listed.Listed.TheVariants.{Already, Added, Full}
 

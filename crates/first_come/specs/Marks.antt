@@ -1,5 +1,5 @@
 -- A table of marks beside a first-come list, which tells at once whether an item is listed.
-use Rattle.std.specs.Prelude.{◌≡◌, ℕ, ◌<◌, Bool, true, false, cond, not, ◌&&◌, List, length, set, Some, None, Option, nat_lt, slice_index_or, slice_set}
+use Rattle.std.specs.Prelude.{◌≡◌, ℕ, ◌<◌, Bool, true, false, cond, not, ◌&&◌, List, length, Some, None, Option, nat_lt, slice_index_or, slice_set}
 use Rattle.first_come.specs.Arrivals.{Kept, arrived, has, has_room, put_unless, keep}
 
 -- the table with the mark c set, if it has that mark

@@ -27,14 +27,14 @@ impl<'a, T: Same + Copy> FirstCome<'a, T> {
 
     /// Whether an item that is the same is listed.
     pub fn holds(&self, item: &T) -> bool
-        ensures { result ≡ has same (arrived (contents self.now)) item.now }
+        ensures { result ≡ has T.same (arrived (contents self.now)) item.now }
     {
         self.place_of(item).is_some()
     }
 
     /// The place of the item that is the same, if one is listed.
     pub fn place_of(&self, item: &T) -> Option<usize>
-        ensures { result ≡ found_at same (arrived (contents self.now)) item.now }
+        ensures { result ≡ found_at T.same (arrived (contents self.now)) item.now }
     {
         let places = &*self.places;
         find(&places[0..self.len], item)
@@ -57,11 +57,11 @@ impl<'a, T: Same + Copy> FirstCome<'a, T> {
 
     /// Lists the item, unless one that is the same is listed or no place is left.
     pub fn list(&mut self, item: T) -> Listed
-        ensures answered { result ≡ answer same (contents self.old) item }
-        ensures kept { contents self.new ≡ keep same (contents self.old) item }
+        ensures answered { result ≡ answer T.same (contents self.old) item }
+        ensures kept { contents self.new ≡ keep T.same (contents self.old) item }
         ensures lender { lender self.new ≡ lender self.old }
-        ensures once { Distinct same (arrived (contents self.old)) → Distinct same (arrived (contents self.new)) }
-        ensures in_order { InOrderOfArrival same (contents self.old) item (contents self.new) }
+        ensures once { Distinct T.same (arrived (contents self.old)) → Distinct T.same (arrived (contents self.new)) }
+        ensures in_order { InOrderOfArrival T.same (contents self.old) item (contents self.new) }
     {
         if let Some(place) = self.place_of(&item) {
             return Listed::Already(place);
@@ -91,8 +91,8 @@ impl<'a, T: Same + Copy> FirstCome<'a, T> {
 
     /// Whether an item that is the same is listed: by its mark in a table, or by looking where the table has no such mark.
     pub fn holds_marked(&self, marks: &[bool], mark: Option<usize>, item: &T) -> bool
-        ensures answered { result ≡ held_by_mark same (contents self.now) marks.now mark item.now }
-        ensures as_listed { ToldAsListed same (contents self.now) marks.now mark item.now result }
+        ensures answered { result ≡ held_by_mark T.same (contents self.now) marks.now mark item.now }
+        ensures as_listed { ToldAsListed T.same (contents self.now) marks.now mark item.now result }
     {
         match mark {
             Some(mark) if mark < marks.len() => marks[mark],
@@ -103,10 +103,10 @@ impl<'a, T: Same + Copy> FirstCome<'a, T> {
     /// Lists the item as `list` does, but asks its mark in a table whether one that is the same is listed. An item that is
     /// added is marked. Whoever keeps the table answers for its marks being true.
     pub fn list_marked(&mut self, marks: &mut [bool], mark: Option<usize>, item: T)
-        ensures kept { contents self.new ≡ keep_by_mark same (contents self.old) marks.old mark item }
-        ensures marked { marks.new ≡ marks_after same (contents self.old) marks.old mark item }
+        ensures kept { contents self.new ≡ keep_by_mark T.same (contents self.old) marks.old mark item }
+        ensures marked { marks.new ≡ marks_after T.same (contents self.old) marks.old mark item }
         ensures lender { lender self.new ≡ lender self.old }
-        ensures as_listed { KeptAsListed same (contents self.old) marks.old mark item (contents self.new) marks.new }
+        ensures as_listed { KeptAsListed T.same (contents self.old) marks.old mark item (contents self.new) marks.new }
     {
         if self.holds_marked(marks, mark, &item) {
             return;
@@ -130,7 +130,7 @@ fn set_mark(marks: &mut [bool], mark: Option<usize>)
 
 /// The first place of an item that is the same.
 fn find<T: Same>(items: &[T], item: &T) -> Option<usize>
-    ensures { result ≡ found_at same items.now item.now }
+    ensures { result ≡ found_at T.same items.now item.now }
 {
     for (place, listed) in items.iter().enumerate() {
         if listed.same_as(item) {

@@ -1,6 +1,6 @@
-use Rattle.std.proofs.Common.{◌≡◌, ◌+◌, true, sym, refl, ◌∙◌, arith}
+use Rattle.std.proofs.Common.{◌≡◌, true, sym, refl, ◌∙◌, arith}
 use Rattle.std.proofs.lemmas.List.{at_drop_all}
-use Rattle.first_come.specs.Arrivals.{has, place_of, found_at}
+use Rattle.first_come.specs.Arrivals.{has, place_of}
 use Rattle.first_come.proofs.Arrivals.{has_at, place_at}
 use Rattle.first_come.proofs.list.methods.find.Goals as goal
 

@@ -1,4 +1,4 @@
-use Rattle.std.proofs.Common.{◌≡◌, ◌+◌, ◌≤◌, length, drop}
+use Rattle.std.proofs.Common.{◌≡◌, ◌+◌, drop}
 use Rattle.first_come.specs.Arrivals.{has, place_of}
 use Rattle.first_come.proofs.list.methods.find.Given as goal
 
