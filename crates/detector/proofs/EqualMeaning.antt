@@ -1,11 +1,11 @@
 -- Detectors of equal meaning.
-use Rattle.std.proofs.Common.{◌≡◌, Bool, true, sym, refl, ◌∙◌, subst}
+use Rattle.std.proofs.Common.{◌≡◌, Bool, sym, refl, ◌∙◌, subst}
 use Rattle.std.proofs.lemmas.Bool.{false≢true, true≢false}
 use Rattle.model.specs.declared.row.Row.{Row}
 use Rattle.model.specs.Records.{ModelRecord}
 use Rattle.detector.specs.declared.verdict.Verdict.{Verdict}
 use Rattle.detector.specs.declared.verdict.Verdict.TheVariants.{Dead, Silent}
-use Rattle.detector.specs.Laws.{Lawful, EqualMeaning, EqualMeaningKeepsTheLaws}
+use Rattle.detector.specs.Laws.{Lawful, EqualMeaningKeepsTheLaws}
 use Rattle.detector.specs.Verdicts.{says_dead, EqualMeaningGivesEqualVerdicts}
 
 -- the same rows of the same model

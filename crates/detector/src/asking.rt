@@ -8,7 +8,7 @@ use model::row::Row;
 
 /// Whether the detector calls the row dead.
 pub fn calls_dead<D: Detector>(detector: &D, row: &Row) -> bool
-    ensures answer { result ≡ dead detector.now row.now }
+    ensures answer { result ≡ D.dead detector.now row.now }
     ensures equal_verdicts { EqualMeaningGivesEqualVerdicts }
     ensures equal_laws { EqualMeaningKeepsTheLaws }
 {
@@ -16,7 +16,7 @@ pub fn calls_dead<D: Detector>(detector: &D, row: &Row) -> bool
 }
 
 fn answer<D: Detector>(detector: &D, row: &Row) -> bool
-    ensures { result ≡ dead detector.now row.now }
+    ensures { result ≡ D.dead detector.now row.now }
 {
     detector.verdict(row).is_dead()
 }
