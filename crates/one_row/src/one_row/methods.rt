@@ -2,9 +2,10 @@
 ghost use Rattle.std.specs.Prelude.{◌≡◌, IfOk};
 ghost use Rattle.detector.specs.Laws.{Lawful};
 ghost use Rattle.model.specs.Drafts.{recorded};
+ghost use Rattle.model.proofs.SealedModel.{model_sealed};
 ghost use Rattle.one_row.specs.Standstill.{stays, all_stay, stands_still, one_row_dead};
 ghost use Rattle.one_row.specs.Meaning.{making_told, making_answer, one_row_model, one_row};
-ghost use Rattle.std.proofs.Common.{rules, arith};
+ghost use Rattle.std.proofs.lemmas.Bool.{and_parts};
 
 use super::OneRow;
 use detector::Detector;
@@ -32,9 +33,9 @@ impl Detector for OneRow {
 
     ghost dead = { λ d. one_row_dead (one_row_model d) (one_row d) };
 
-    ghost sealed = { first_of (Prim.search rules, Prim.grind (arith, Self.row.coded.inj)) };
+    ghost sealed = { λ d. model_sealed d.model };
 
-    ghost within = { first_of (Prim.search rules, Prim.grind (arith, Self.row.coded.inj)) };
+    ghost within = { λ d t dead. (and_parts _ _ dead).0 };
 
     fn model(&self) -> &Model {
         &self.model
