@@ -1,5 +1,5 @@
 -- Cuts that give their variables, each by a value below its size: there are no more of them than the product of the sizes.
-use Rattle.std.proofs.Common.{◌≡◌, ℕ, ◌+◌, ◌*◌, ◌/◌, ◌%◌, ◌<◌, ◌≤◌, true, List, is_some as option_is_some, Some, None, Option, sym, refl, ap, ◌∙◌, subst, ⊎_elim, arith}
+use Rattle.std.proofs.Common.{◌≡◌, ℕ, ◌+◌, ◌*◌, ◌/◌, ◌%◌, ◌<◌, ◌≤◌, true, List, is_some, Some, None, Option, sym, refl, ap, ◌∙◌, subst, ⊎_elim, arith}
 use Rattle.std.proofs.lemmas.Nat.{mul-add-lt, div-mul-add, mod-mul-add}
 use Rattle.std.proofs.lemmas.Bool.{and_parts, false≢true, ltb-true, cases_lt}
 use Rattle.model.specs.declared.row.Row.{Row}
@@ -20,9 +20,9 @@ abbrev value : Option ℕ → ℕ
 value None = 0
 value (Some v) = v
 
-is_some : (e : Option ℕ) → option_is_some e ≡ true → (v : ℕ) × (e ≡ Some v)
-is_some None h = absurd (false≢true h)
-is_some (Some v) h = (v, refl)
+given_value : (e : Option ℕ) → is_some e ≡ true → (v : ℕ) × (e ≡ Some v)
+given_value None h = absurd (false≢true h)
+given_value (Some v) h = (v, refl)
 
 module _ (vs : List Variable) where
   -- the entry gives the variable below its size, or is open where there is no variable
@@ -47,7 +47,7 @@ module _ (vs : List Variable) where
 
   inside_given : (row : Row) → row_fits vs row ≡ true → (o : Option ℕ) → given_at row o ≡ true → Inside o (entry_of row o)
   inside_given row fits None g = refl
-  inside_given row fits (Some v) g = let y = is_some (at row v) g in (y.0, y.1, entry_inside row fits v y.0 y.1)
+  inside_given row fits (Some v) g = let y = given_value (at row v) g in (y.0, y.1, entry_inside row fits v y.0 y.1)
 
   -- after a move whose effects e are those of the model
   or_else_inside : (v : ℕ) (e t c : Option ℕ) → ((y : ℕ) → e ≡ Some y → y < size_at vs v) → Inside (Some v) t → Inside (Some v) (or_else e (or_else t c))

@@ -1,5 +1,5 @@
 -- Which facts a row has, and when all of them are among those listed.
-use Rattle.std.proofs.Common.{◌≡◌, ℕ, zero, suc, ◌+◌, ◌-◌, ◌<◌, ◌≤◌, Bool, true, false, ◌⊎◌, List, [], ◌∷◌, Some, None, Option, sym, refl, ap, ◌∙◌, subst, ⊎_elim, arith}
+use Rattle.std.proofs.Common.{◌≡◌, ℕ, zero, suc, ◌+◌, ◌-◌, ◌<◌, ◌≤◌, Bool, true, false, List, [], ◌∷◌, Some, None, Option, sym, refl, ap, ◌∙◌, subst, ⊎_elim, arith}
 use Rattle.std.proofs.lemmas.Bool.{cases_lt, cases_eq, or_cases, and_cases, eqb-true, eq-eqb, ltb-true, false≢true, true≢false}
 use Rattle.first_come.specs.Arrivals.{Kept, has, keep_all}
 use Rattle.first_come.proofs.Listings.{has_append, has_left, has_right, keep_all_append}

@@ -1,5 +1,5 @@
 -- Rounds of moves only add facts, and as many as there are places left end where none is added.
-use Rattle.std.proofs.Common.{◌≡◌, ℕ, zero, suc, ◌-◌, ◌≤◌, ◌⊎◌, List, [], ◌∷◌, length, sym, refl, ap, ◌∙◌, subst, ⊎_elim, arith}
+use Rattle.std.proofs.Common.{◌≡◌, ℕ, zero, suc, ◌-◌, ◌≤◌, List, [], ◌∷◌, length, sym, refl, ap, ◌∙◌, subst, ⊎_elim, arith}
 use Rattle.std.proofs.lemmas.Bool.{cond_both, cases_eq}
 use Rattle.first_come.specs.Arrivals.{Kept, arrived}
 use Rattle.first_come.proofs.Growth.{Grows, grows_none, grows_on, grows_keep_all}

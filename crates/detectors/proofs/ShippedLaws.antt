@@ -1,5 +1,4 @@
 -- Every detector that ships keeps the two laws.
-use Rattle.std.proofs.Common.{◌≡◌, true, refl}
 use Rattle.std.proofs.lemmas.Bool.{false≢true}
 use Rattle.model.specs.Records.{ModelRecord}
 use Rattle.model.proofs.SealedModel.{model_sealed}

@@ -14,3 +14,4 @@ pub mod WorkedVerdicts
 pub mod Shipping
 pub mod CutSameness
 pub mod SameFacts
+pub mod ShippedRows

@@ -3,7 +3,8 @@ ghost use Rattle.std.specs.Prelude.{◌≡◌};
 ghost use Rattle.detector.specs.Laws.{Lawful};
 ghost use Rattle.model.specs.Drafts.{recorded};
 ghost use Rattle.detectors.specs.Shipping.{bare_model, bare_dead};
-ghost use Rattle.std.proofs.Common.{rules};
+ghost use Rattle.std.proofs.lemmas.Bool.{false≢true};
+ghost use Rattle.model.proofs.SealedModel.{model_sealed};
 
 use detector::Detector;
 use detector::verdict::Verdict;
@@ -32,9 +33,9 @@ impl Detector for Bare {
 
     ghost dead = { λ d. bare_dead (bare_model d) };
 
-    ghost sealed = { Prim.search rules };
+    ghost sealed = { λ d. model_sealed d.model };
 
-    ghost within = { Prim.search rules };
+    ghost within = { λ d t dead. absurd (false≢true dead) };
 
     fn model(&self) -> &Model {
         &self.model

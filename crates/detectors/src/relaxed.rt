@@ -6,7 +6,8 @@ ghost use Rattle.detectors.specs.Closure.{relaxed_dead};
 ghost use Rattle.detectors.specs.ReachedFacts.{RelaxedDecides};
 ghost use Rattle.detectors.specs.RelaxedMeaning.{relaxed_model};
 ghost use Rattle.detectors.specs.WorkedVerdicts.{WorkedRelaxedVerdicts};
-ghost use Rattle.std.proofs.Common.{rules};
+ghost use Rattle.std.proofs.lemmas.Bool.{and_parts};
+ghost use Rattle.model.proofs.SealedModel.{model_sealed};
 
 mod fact;
 mod reaching;
@@ -41,9 +42,9 @@ impl Detector for Relaxed {
 
     ghost dead = { λ d. relaxed_dead (relaxed_model d) };
 
-    ghost sealed = { Prim.search rules };
+    ghost sealed = { λ d. model_sealed d.model };
 
-    ghost within = { Prim.search rules };
+    ghost within = { λ d t dead. (and_parts _ _ dead).0 };
 
     fn model(&self) -> &Model {
         &self.model

@@ -1,6 +1,6 @@
 //! A detector that is chosen as the program runs: one of those that ship.
 ghost use Rattle.detectors.specs.Shipping.{shipped_model, shipped_dead};
-ghost use Rattle.std.proofs.Common.{rules};
+ghost use Rattle.detectors.specs.ShippedRows.{shipped_sealed, shipped_within};
 
 use crate::bare::Bare;
 use crate::pattern::Pattern;
@@ -24,9 +24,9 @@ impl Detector for Shipped {
 
     ghost dead = { shipped_dead };
 
-    ghost sealed = { Prim.search rules };
+    ghost sealed = { shipped_sealed };
 
-    ghost within = { Prim.search rules };
+    ghost within = { shipped_within };
 
     fn model(&self) -> &Model {
         match self {

@@ -5,7 +5,8 @@ ghost use Rattle.detectors.specs.Operands.{pattern_answer};
 ghost use Rattle.detectors.specs.Patterns.{pattern_model, pattern_variables, chosen_or_refused, carried_or_back, MadeLawful};
 ghost use Rattle.detectors.specs.PatternMeaning.{pattern_dead, PatternDecides};
 ghost use Rattle.detectors.specs.WorkedVerdicts.{WorkedPatternVerdicts};
-ghost use Rattle.std.proofs.Common.{rules, arith};
+ghost use Rattle.std.proofs.lemmas.Bool.{and_parts};
+ghost use Rattle.model.proofs.SealedModel.{model_sealed};
 
 use super::Pattern;
 use crate::pattern::operands::choose;
@@ -51,9 +52,9 @@ impl Detector for Pattern {
 
     ghost dead = { λ p. pattern_dead (pattern_model p) (pattern_variables p) };
 
-    ghost sealed = { first_of (Prim.search rules, Prim.grind (arith, Self.row.coded.inj)) };
+    ghost sealed = { λ p. model_sealed p.model };
 
-    ghost within = { first_of (Prim.search rules, Prim.grind (arith, Self.row.coded.inj)) };
+    ghost within = { λ p t dead. (and_parts _ _ dead).0 };
 
     fn model(&self) -> &Model {
         &self.model

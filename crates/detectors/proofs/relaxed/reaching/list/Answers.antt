@@ -3,4 +3,4 @@ use Rattle.detectors.specs.SameFacts.{fact_marking}
 use Rattle.detectors.proofs.relaxed.reaching.list.Goals as goal
 
 pub returns : goal.returns
-returns c = let r = c.list_marked.ensures.as-listed mark_of fact_marking c.requires c.mark.ensures in record { kept = r.0; marked = r.1 }
+returns c = let r = c.list_marked.ensures.as_listed mark_of fact_marking c.requires c.mark.ensures in record { kept = r.0; marked = r.1 }
