@@ -1,3 +1,4 @@
+pub mod SameFacts
 pub mod FactsOfRows
 pub mod Rounds
 pub mod Limited

@@ -67,7 +67,7 @@ module _ {T : Type 0} (same : T → T → Bool) where
   agree_none mark n f c h l = get_or-replicate n c false false (subst (λ m. c < m) (length-replicate n false) l)
 
   -- the same of what the code keeps
-  pub kept_as_listed_after : (k after : Kept T) (marks MarksThen : List Bool) (m : Option ℕ) (x : T) → after ≡ keep_by_mark same k marks m x → MarksThen ≡ marks_after same k marks m x → KeptAsListed same k marks m x after MarksThen
-  kept_as_listed_after k after marks MarksThen m x is are mark laws agree mine =
+  pub kept_as_listed_after : (k after : Kept T) (marks marks_then : List Bool) (m : Option ℕ) (x : T) → after ≡ keep_by_mark same k marks m x → marks_then ≡ marks_after same k marks m x → KeptAsListed same k marks m x after marks_then
+  kept_as_listed_after k after marks marks_then m x is are mark laws agree mine =
       let r = kept_as_listed k marks m x mark laws agree mine in
-      (is ∙ r.0, subst (λ n. Agree same mark MarksThen (arrived n)) (sym is) (subst (λ l. Agree same mark l (arrived (keep_by_mark same k marks m x))) (sym are) r.1))
+      (is ∙ r.0, subst (λ n. Agree same mark marks_then (arrived n)) (sym is) (subst (λ l. Agree same mark l (arrived (keep_by_mark same k marks m x))) (sym are) r.1))

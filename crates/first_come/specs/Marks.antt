@@ -36,6 +36,6 @@ module _ {T : Type 0} (same : T → T → Bool) where
 
   -- where the marks are true, listing by marks keeps what listing keeps, and the marks are true again
   abbrev pub KeptAsListed : Kept T → List Bool → Option ℕ → T → Kept T → List Bool → Type 0
-  KeptAsListed k marks m x after MarksThen =
+  KeptAsListed k marks m x after marks_then =
       (mark : T → Option ℕ) → Marking mark → Agree mark marks (arrived k) → m ≡ mark x
-      → (after ≡ keep same k x) × Agree mark MarksThen (arrived after)
+      → (after ≡ keep same k x) × Agree mark marks_then (arrived after)

@@ -1,5 +1,5 @@
 use Rattle.detectors.specs.Facts.{mark_of}
-use Rattle.detectors.specs.SameFacts.{fact_marking}
+use Rattle.detectors.proofs.SameFacts.{fact_marking}
 use Rattle.detectors.proofs.relaxed.reaching.list.Goals as goal
 
 pub returns : goal.returns
