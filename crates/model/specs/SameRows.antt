@@ -1,6 +1,6 @@
 -- Rows with the same entries are equal, so `==` on rows is an equivalence.
-use Rattle.std.specs.Prelude.{◌≡◌, ◌<◌, ℕ, length, Some, None, Option, Decides}
-use Rattle.std.proofs.Common.{◌∙◌, sym, refl, ap, arith}
+use Rattle.std.specs.Prelude.{◌≡◌, ◌<◌, ℕ, length, Some, None, Option, Decides, is_some, unwrap_or}
+use Rattle.std.proofs.Common.{◌∙◌, sym, refl, ap, subst}
 use mathlib.Core.HLevel.{is_prop→PathP}
 use native.Mathlib.Nat.{ℕ_set}
 use Rattle.std.proofs.lemmas.Bool.{eq-eqb, eqb-true, false≢true}
@@ -20,13 +20,13 @@ same_entries r t p = λ i. record {
 
 -- rows with the same entries are the same
 pub row_ext : (r t : Row) → ((i : ℕ) → i < 32 → at r i ≡ at t i) → r ≡ t
-row_ext r t h = same_entries r t (ext_get_or None r.entries t.entries (r.full ∙ sym t.full) (λ i l. h i (omega (arith, r.full))))
+row_ext r t h = same_entries r t (ext_get_or None r.entries t.entries (r.full ∙ sym t.full) (λ i l. h i (subst (λ n. i < n) r.full l)))
 
 pub same_entry_decides : (a b : Option ℕ) → Decides (same_entry a b) (a ≡ b)
 same_entry_decides None None = ((λ _. refl), λ _. refl)
-same_entry_decides None (Some w) = ((λ h. absurd (false≢true h)), λ e. cc)
-same_entry_decides (Some v) None = ((λ h. absurd (false≢true h)), λ e. cc)
-same_entry_decides (Some v) (Some w) = ((λ h. ap (λ n. Some n) (eqb-true v w h)), λ e. eq-eqb v w (cc))
+same_entry_decides None (Some w) = ((λ h. absurd (false≢true h)), λ e. ap is_some e)
+same_entry_decides (Some v) None = ((λ h. absurd (false≢true h)), λ e. sym (ap is_some e))
+same_entry_decides (Some v) (Some w) = ((λ h. ap (λ n. Some n) (eqb-true v w h)), λ e. eq-eqb v w (ap (λ o. unwrap_or o 0) e))
 
 each_entry_decides : (r t : Row) → Decides (same_row r t) ((i : ℕ) → i < 32 → at r i ≡ at t i)
 unfolding all_below
