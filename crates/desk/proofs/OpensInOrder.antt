@@ -7,7 +7,8 @@ use Rattle.model.specs.Records.{ModelRecord, blank}
 use Rattle.desk.specs.declared.opening.Stop.{Stop}
 use Rattle.desk.specs.Steps.{naming}
 use Rattle.desk.specs.ModelPart.{ModelEnd, stopped, sealed, model_part}
-use Rattle.desk.specs.Choosing.{Detector, Choice, operands_fit, kind_answer, choice_answer, chosen_at, detector_part}
+use Rattle.detectors.specs.Choosing.{Detector, operands_fit, kind_answer}
+use Rattle.desk.specs.Choosing.{choice_answer, chosen_at, detector_part}
 use Rattle.desk.specs.Openings.{Opened, unsealed, ended, orders, behind_model, opened_by, opening}
 use Rattle.desk.specs.InOrder.{InOrder, Chooses, InOrderWithDetector, StandsInOrder}
 use Rattle.desk.proofs.StandInOrder.{model_in_order}
@@ -19,14 +20,14 @@ chosen_never_refused detector r h = let z : ◌≡◌ {A = ℕ} 0 1 = cc in absu
 
 kind_chosen : (vs : List Variable) (kind first second third : ℕ) (detector : Detector) → Ok detector ≡ kind_answer vs kind first second third → detector ≡ (kind, first ∷ second ∷ third ∷ [])
 kind_chosen vs kind first second third detector h =
-    split {X = Choice} (ltb 2 kind) _ _ _ h (λ _ w. chosen_never_refused detector _ w) (λ _ h.
-    split {X = Choice} (operands_fit vs kind first (second ∷ third ∷ [])) _ _ _ h (λ _ w. cc) (λ _ w. chosen_never_refused detector _ w))
+    split {X = Result Detector Refusal} (ltb 2 kind) _ _ _ h (λ _ w. chosen_never_refused detector _ w) (λ _ h.
+    split {X = Result Detector Refusal} (operands_fit vs kind first (second ∷ third ∷ [])) _ _ _ h (λ _ w. cc) (λ _ w. chosen_never_refused detector _ w))
 
 chooses : (vs : List Variable) (i : Item) (detector : Detector) → Ok detector ≡ choice_answer vs i.said → Chooses i detector
 chooses vs i detector h =
-    split {X = Choice} (eqb i.said.0 2) _ _ _ h (λ _ w. chosen_never_refused detector _ w) (λ _ h.
-    split {X = Choice} (eqb i.said.0 1) _ _ _ h (λ _ w. chosen_never_refused detector _ w) (λ _ h.
-    split {X = Choice} (eqb i.said.0 0x44) _ _ _ h
+    split {X = Result Detector Refusal} (eqb i.said.0 2) _ _ _ h (λ _ w. chosen_never_refused detector _ w) (λ _ h.
+    split {X = Result Detector Refusal} (eqb i.said.0 1) _ _ _ h (λ _ w. chosen_never_refused detector _ w) (λ _ h.
+    split {X = Result Detector Refusal} (eqb i.said.0 0x44) _ _ _ h
     (λ is w. record { by_a_detector_command = eqb-true _ _ is; kind_and_operands = kind_chosen vs _ _ _ _ detector w })
     (λ _ w. chosen_never_refused detector _ w)))
 
@@ -34,7 +35,7 @@ detector_in : Detector → Result (Detector × ℕ) Stop → Detector
 detector_in other (Ok c) = c.0
 detector_in other (Err stop) = other
 
-chosen_by : (end : ℕ) (i : Item) (c : Choice) (detector : Detector) (next : ℕ) → Ok (detector, next) ≡ chosen_at end i c → Ok detector ≡ c
+chosen_by : (end : ℕ) (i : Item) (c : Result Detector Refusal) (detector : Detector) (next : ℕ) → Ok (detector, next) ≡ chosen_at end i c → Ok detector ≡ c
 unfolding detector_in
 chosen_by end i (Ok other) detector next h = ap (λ (d : Detector). Ok d) (ap (detector_in detector) h)
 chosen_by end i (Err r) detector next h = let z : ◌≡◌ {A = ℕ} 0 1 = cc in absurd (omega arith)

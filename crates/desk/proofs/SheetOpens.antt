@@ -1,18 +1,16 @@
 -- How a sheet opens, by its parts.
-use Rattle.std.proofs.Common.{◌≡◌, ℕ, ◌<◌, ◌≤◌, cond, List, length, Result, sym, ap, ◌∙◌, le-ltb, lt-ltb}
+use Rattle.std.proofs.Common.{◌≡◌, ℕ, ◌<◌, ◌≤◌, cond, List, length, sym, ap, ◌∙◌, le-ltb, lt-ltb}
 use Rattle.refusal.specs.declared.Refusal.TheVariants.{TooMany}
-use Rattle.sheet.specs.Commands.{commands, commands_from}
-use Rattle.model.specs.Records.{ModelRecord, blank}
-use Rattle.desk.specs.declared.opening.Stop.{Stop}
+use Rattle.sheet.specs.Commands.{commands}
+use Rattle.model.specs.Records.{blank}
 use Rattle.model.proofs.SealedModel.{model_sealed}
 use Rattle.desk.specs.declared.opening.Opening.{Opening}
 use Rattle.desk.specs.declared.opening.Opening.TheVariants.{Unsealed, Unchosen, Ended, Orders}
 use Rattle.desk.specs.InOrder.{ModelIsSealed}
 use Rattle.desk.specs.Told.{opening_told}
 use Rattle.desk.specs.Steps.{naming}
-use Rattle.desk.specs.ModelPart.{ModelEnd, sealed, model_part}
-use Rattle.desk.specs.Choosing.{Detector, detector_part}
-use Rattle.desk.specs.Openings.{unsealed, behind_model, opened_by, opening}
+use Rattle.desk.specs.ModelPart.{ModelEnd, model_part}
+use Rattle.desk.specs.Openings.{unsealed, opened_by, opening}
 
 module _ (sheet : List ℕ) where
   pub too_long : 65536 < length sheet → unsealed (record { refusal = TooMany; place = 65536 }) ≡ opening sheet
@@ -24,10 +22,6 @@ module _ (sheet : List ℕ) where
   opens_by short m is =
       ap (opened_by (length sheet)) is
       ∙ ap (λ q. cond q (unsealed (record { refusal = TooMany; place = 65536 })) (opened_by (length sheet) (model_part (length sheet) naming blank (commands sheet)))) (sym (le-ltb _ _ short))
-
-  -- the model d is sealed, and the detector part that follows it is r
-  pub opens_behind : length sheet ≤ 65536 → (d : ModelRecord) (next : ℕ) → sealed d (commands_from sheet next) ≡ model_part (length sheet) naming blank (commands sheet) → (r : Result (Detector × ℕ) Stop) → r ≡ detector_part (length sheet) d.variables (commands_from sheet next) → behind_model (length sheet) d r ≡ opening sheet
-  opens_behind short d next is r chosen = ap (behind_model (length sheet) d) chosen ∙ opens_by short (sealed d (commands_from sheet next)) is
 
 -- the model of an opening is sealed by its type
 pub every_opening_sealed : (o : Opening) → ModelIsSealed (opening_told o)

@@ -2,11 +2,13 @@
 use Rattle.std.proofs.Common.{◌≡◌, ℕ, Bool, true, false, cond, eqb, List, [], ◌∷◌, ◌++◌, get_or, drop, is_ok, Ok, Err, refl, ap, ◌∙◌, arith, eqb-true}
 use Rattle.refusal.specs.declared.Refusal.{Refusal}
 use Rattle.sheet.specs.Reading.{Told}
+use Rattle.model.specs.declared.in_hand.Part.{Part}
+use Rattle.model.specs.declared.in_hand.Part.TheVariants.{Conditions, Effects}
 use Rattle.model.specs.Records.{ModelRecord}
 use Rattle.model.specs.Tables.{Answer, begun}
-use Rattle.model.specs.Writing.{if_done, with_move, move_answer, begin_move, seal_answer, with_moves}
+use Rattle.model.specs.Writing.{if_done, with_move, move_answer, begin_move, with_part_entry, seal_answer, with_moves}
 use Rattle.desk.specs.InOrder.{one_of, written_by}
-use Rattle.desk.specs.Steps.{Phase, naming, writing, ending, goes, seals, refuses, answered, variable_step, move_step, condition_step, effect_step, seal_step, step}
+use Rattle.desk.specs.Steps.{Phase, naming, writing, ending, goes, seals, refuses, answered, variable_step, move_step, part_step, seal_step, step}
 
 -- what came of a test
 pub split : {X : Type 0} {G : Type 0} (b : Bool) (x y t : X) → t ≡ cond b x y → (b ≡ true → t ≡ x → G) → (b ≡ false → t ≡ y → G) → G
@@ -49,15 +51,10 @@ module _ (q : Phase) (e : ModelRecord) where
   from_move writing d said is h = accepted _ writing _ h (λ to made fits. begun_one (λ no_end. let z : ◌≡◌ {A = ℕ} 0 1 = cc in absurd (omega arith)) to is (made ∙ move_done d said.1 fits))
   from_move ending d said is h = never_refused _ h
 
-  from_condition : (p : Phase) (d : ModelRecord) (said : Told) → said.0 ≡ 0x50 → goes q e ≡ condition_step p d (get_or said.1 0 0) (get_or said.1 1 0) → Went p q d e said
-  from_condition naming d said is h = never_refused _ h
-  from_condition writing d said is h = accepted _ writing _ h (λ to made fits. entered_part 0x50 refl refl to is (made ∙ is_done _ _ d fits))
-  from_condition ending d said is h = never_refused _ h
-
-  from_effect : (p : Phase) (d : ModelRecord) (said : Told) → said.0 ≡ 0x45 → goes q e ≡ effect_step p d (get_or said.1 0 0) (get_or said.1 1 0) → Went p q d e said
-  from_effect naming d said is h = never_refused _ h
-  from_effect writing d said is h = accepted _ writing _ h (λ to made fits. entered_part 0x45 refl refl to is (made ∙ is_done _ _ d fits))
-  from_effect ending d said is h = never_refused _ h
+  from_part : (part : Part) (b : ℕ) → one_of (0x50 ∷ 0x45 ∷ []) b ≡ true → ((d : ModelRecord) (vs : List ℕ) → with_part_entry part d (get_or vs 0 0) (get_or vs 1 0) ≡ written_by b vs d) → (p : Phase) (d : ModelRecord) (said : Told) → said.0 ≡ b → goes q e ≡ part_step part p d (get_or said.1 0 0) (get_or said.1 1 0) → Went p q d e said
+  from_part part b one writes naming d said is h = never_refused _ h
+  from_part part b one writes writing d said is h = accepted _ writing _ h (λ to made fits. entered_part b one refl to is (made ∙ is_done _ _ d fits ∙ writes d said.1))
+  from_part part b one writes ending d said is h = never_refused _ h
 
   from_seal : {G : Type 0} (d : ModelRecord) → goes q e ≡ seal_step d → G
   from_seal d h = split (is_ok (seal_answer d)) _ _ _ h (λ _ w. never_sealed d w) (λ _ w. never_refused _ w)
@@ -68,8 +65,8 @@ module _ (q : Phase) (e : ModelRecord) where
       split (eqb said.0 1) _ _ _ h (λ _ w. never_refused _ w) (λ _ h.
       split (eqb said.0 0x56) _ _ _ h (λ is w. from_variable p d said (eqb-true _ _ is) w) (λ _ h.
       split (eqb said.0 0x41) _ _ _ h (λ is w. from_move p d said (eqb-true _ _ is) w) (λ _ h.
-      split (eqb said.0 0x50) _ _ _ h (λ is w. from_condition p d said (eqb-true _ _ is) w) (λ _ h.
-      split (eqb said.0 0x45) _ _ _ h (λ is w. from_effect p d said (eqb-true _ _ is) w) (λ _ h.
+      split (eqb said.0 0x50) _ _ _ h (λ is w. from_part Conditions 0x50 refl (λ _ _. refl) p d said (eqb-true _ _ is) w) (λ _ h.
+      split (eqb said.0 0x45) _ _ _ h (λ is w. from_part Effects 0x45 refl (λ _ _. refl) p d said (eqb-true _ _ is) w) (λ _ h.
       split (eqb said.0 0x53) _ _ _ h (λ is w. accepted _ ending _ w (λ to made fits. entered_end 0x53 refl to (eqb-true _ _ is) (made ∙ is_done _ _ d fits))) (λ _ h.
       split (eqb said.0 0x47) _ _ _ h (λ is w. accepted _ ending _ w (λ to made fits. entered_end 0x47 refl to (eqb-true _ _ is) (made ∙ is_done _ _ d fits))) (λ _ h.
       split (eqb said.0 0x5a) _ _ _ h (λ is w. from_seal d w) (λ _ w. never_refused _ w)))))))))
@@ -92,15 +89,10 @@ module _ (e : ModelRecord) where
   no_move_seals writing d name h = seal_never_goes _ _ _ h
   no_move_seals ending d name h = seal_never_refused _ h
 
-  no_condition_seals : {G : Type 0} (p : Phase) (d : ModelRecord) (i v : ℕ) → seals e ≡ condition_step p d i v → G
-  no_condition_seals naming d i v h = seal_never_refused _ h
-  no_condition_seals writing d i v h = seal_never_goes _ _ _ h
-  no_condition_seals ending d i v h = seal_never_refused _ h
-
-  no_effect_seals : {G : Type 0} (p : Phase) (d : ModelRecord) (i v : ℕ) → seals e ≡ effect_step p d i v → G
-  no_effect_seals naming d i v h = seal_never_refused _ h
-  no_effect_seals writing d i v h = seal_never_goes _ _ _ h
-  no_effect_seals ending d i v h = seal_never_refused _ h
+  no_part_seals : {G : Type 0} (part : Part) (p : Phase) (d : ModelRecord) (i v : ℕ) → seals e ≡ part_step part p d i v → G
+  no_part_seals part naming d i v h = seal_never_refused _ h
+  no_part_seals part writing d i v h = seal_never_goes _ _ _ h
+  no_part_seals part ending d i v h = seal_never_refused _ h
 
   -- only Z seals, and it seals the model as it is
   pub sealed_by : (p : Phase) (d : ModelRecord) (said : Told) → seals e ≡ step p d said → (said.0 ≡ 0x5a) × (e ≡ d)
@@ -109,8 +101,8 @@ module _ (e : ModelRecord) where
       split (eqb said.0 1) _ _ _ h (λ _ w. seal_never_refused _ w) (λ _ h.
       split (eqb said.0 0x56) _ _ _ h (λ _ w. no_variable_seals p d _ _ w) (λ _ h.
       split (eqb said.0 0x41) _ _ _ h (λ _ w. no_move_seals p d _ w) (λ _ h.
-      split (eqb said.0 0x50) _ _ _ h (λ _ w. no_condition_seals p d _ _ w) (λ _ h.
-      split (eqb said.0 0x45) _ _ _ h (λ _ w. no_effect_seals p d _ _ w) (λ _ h.
+      split (eqb said.0 0x50) _ _ _ h (λ _ w. no_part_seals Conditions p d _ _ w) (λ _ h.
+      split (eqb said.0 0x45) _ _ _ h (λ _ w. no_part_seals Effects p d _ _ w) (λ _ h.
       split (eqb said.0 0x53) _ _ _ h (λ _ w. seal_never_goes _ _ _ w) (λ _ h.
       split (eqb said.0 0x47) _ _ _ h (λ _ w. seal_never_goes _ _ _ w) (λ _ h.
       split (eqb said.0 0x5a) _ _ _ h

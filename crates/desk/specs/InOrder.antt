@@ -1,10 +1,10 @@
 -- The commands of a sheet that opens stand in order: those of its model, which is what they write, and then that of its detector.
 use Rattle.std.specs.Prelude.{◌≡◌, ℕ, Bool, true, false, cond, ◌||◌, List, [], ◌∷◌, ◌++◌, drop, ◌==◌, slice_index}
 use Rattle.sheet.specs.Commands.{Item}
-use Rattle.model.specs.Limits.{every}
+use Rattle.std.specs.List.{list_all}
 use Rattle.model.specs.Records.{ModelRecord, blank, Sealed}
 use Rattle.model.specs.Writing.{with_variable, with_move, with_condition, with_effect, with_start, with_goal}
-use Rattle.desk.specs.Choosing.{Detector}
+use Rattle.detectors.specs.Choosing.{Detector}
 use Rattle.desk.specs.Openings.{Opened, unsealed, unchosen, ended, orders}
 
 abbrev pub one_of : List ℕ → ℕ → Bool
@@ -13,7 +13,7 @@ one_of (c ∷ cs) b = b == c || one_of cs b
 
 -- every command has one of these bytes
 abbrev pub only : List ℕ → List Item → Bool
-only bytes items = every (λ i. one_of bytes i.said.0) items
+only bytes items = list_all (λ i. one_of bytes i.said.0) items
 
 -- where there are any, the first has this byte
 abbrev pub begins_with : ℕ → List Item → Bool

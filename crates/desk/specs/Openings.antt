@@ -10,7 +10,8 @@ use Rattle.desk.specs.declared.lines.Line.TheVariants.{Model, End}
 use Rattle.desk.specs.declared.lines.Line.TheVariants as line
 use Rattle.desk.specs.Steps.{naming}
 use Rattle.desk.specs.ModelPart.{ModelEnd, stopped, sealed, model_part}
-use Rattle.desk.specs.Choosing.{Detector, detector_part}
+use Rattle.detectors.specs.Choosing.{Detector}
+use Rattle.desk.specs.Choosing.{detector_part}
 use Rattle.desk.specs.Lines.{printed}
 
 pub data Opened : Type 0 where

@@ -5,7 +5,11 @@ use Rattle.refusal.specs.declared.Refusal.TheVariants.{SheetEnds, UnknownCommand
 use Rattle.sheet.specs.Reading.{Told}
 use Rattle.model.specs.Records.{ModelRecord}
 use Rattle.model.specs.Tables.{Answer}
-use Rattle.model.specs.Writing.{variable_answer, name_variable, move_answer, begin_move, condition_answer, enter_condition, effect_answer, enter_effect, start_answer, enter_start, goal_answer, enter_goal, seal_answer}
+use Rattle.model.specs.declared.in_hand.Part.{Part}
+use Rattle.model.specs.declared.in_hand.Part.TheVariants.{Conditions, Effects}
+use Rattle.model.specs.declared.in_hand.End.{End}
+use Rattle.model.specs.declared.in_hand.End.TheVariants.{Start, Goal}
+use Rattle.model.specs.Writing.{variable_answer, name_variable, move_answer, begin_move, part_answer, enter_part, end_answer, enter_end, seal_answer}
 
 -- what the model in hand takes next: variables; moves with their conditions and effects; or its start and goal
 pub data Phase : Type 0 where
@@ -37,22 +41,26 @@ move_step writing d name = answered (move_answer d) writing (begin_move d name)
 move_step ending d name = refuses OutOfTurn
 
 -- each with its conditions and effects
+abbrev pub part_step : Part → Phase → ModelRecord → ℕ → ℕ → Turned
+part_step part naming d i v = refuses OutOfTurn
+part_step part writing d i v = answered (part_answer part d i v) writing (enter_part part d i v)
+part_step part ending d i v = refuses OutOfTurn
+
 abbrev pub condition_step : Phase → ModelRecord → ℕ → ℕ → Turned
-condition_step naming d i v = refuses OutOfTurn
-condition_step writing d i v = answered (condition_answer d i v) writing (enter_condition d i v)
-condition_step ending d i v = refuses OutOfTurn
+condition_step = part_step Conditions
 
 abbrev pub effect_step : Phase → ModelRecord → ℕ → ℕ → Turned
-effect_step naming d i v = refuses OutOfTurn
-effect_step writing d i v = answered (effect_answer d i v) writing (enter_effect d i v)
-effect_step ending d i v = refuses OutOfTurn
+effect_step = part_step Effects
 
 -- start and goal stand mixed after them
+abbrev pub end_step : End → ModelRecord → ℕ → ℕ → Turned
+end_step end d i v = answered (end_answer end d i v) ending (enter_end end d i v)
+
 abbrev pub start_step : ModelRecord → ℕ → ℕ → Turned
-start_step d i v = answered (start_answer d i v) ending (enter_start d i v)
+start_step = end_step Start
 
 abbrev pub goal_step : ModelRecord → ℕ → ℕ → Turned
-goal_step d i v = answered (goal_answer d i v) ending (enter_goal d i v)
+goal_step = end_step Goal
 
 -- then the model is sealed
 abbrev pub seal_step : ModelRecord → Turned

@@ -2,6 +2,7 @@
 #![tactic(auto)]
 
 mod choosing;
+mod followed;
 pub mod lines;
 mod model_part;
 pub mod opening;

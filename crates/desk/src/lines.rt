@@ -5,7 +5,7 @@ ghost use Rattle.desk.specs.Lines.{line_bytes};
 use std::fmt;
 
 /// One line, without its end.
-#[derive(Clone, Copy)]
+#[derive(Clone, Copy, Debug, PartialEq, Eq)]
 pub enum Line {
     /// The model is sealed, with so many variables and moves.
     Model { variables: usize, moves: usize },

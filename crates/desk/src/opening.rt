@@ -1,15 +1,21 @@
 //! The opening of a sheet: its model and the choice of its detector.
-ghost use Rattle.std.specs.Prelude.{◌≡◌, IfOk, Some, Ok};
+ghost use Rattle.std.specs.Prelude.{◌≡◌, length, IfOk, Some, Ok};
 ghost use Rattle.sheet.specs.Commands.{commands};
 ghost use Rattle.desk.specs.InOrder.{ModelIsSealed, StandsInOrder};
 ghost use Rattle.desk.specs.Lines.{printed};
-ghost use Rattle.desk.specs.Openings.{behind_model, model_line, stop_line, opening, opening_lines, printed_of};
-ghost use Rattle.desk.specs.Told.{detector_told, opening_told};
+ghost use Rattle.desk.specs.ModelPart.{stop_at};
+ghost use Rattle.desk.specs.Openings.{behind_model, opened_by, model_line, stop_line, opening, opening_lines, printed_of};
+ghost use Rattle.desk.specs.Told.{followed_told, model_part_told, opening_told};
+ghost use Rattle.detectors.specs.Choosing.{chosen_told};
 ghost use Rattle.model.specs.Drafts.{recorded};
 
-use crate::choosing::{ChosenAt, read_detector};
+use crate::choosing::read_detector;
+use crate::followed::Followed;
 use crate::lines::Line;
-use crate::model_part::{SealedAt, read_model};
+use crate::model_part::read_model;
+use crate::stage::Stage;
+use detectors::choosing::Choice;
+use model::in_hand::NamingVariables;
 use model::sealed::Model;
 use refusal::Refusal;
 use std::alloc::{AllocError, Global};
@@ -19,19 +25,25 @@ use std::fmt;
 const LONGEST: usize = 65_536;
 
 /// A refusal that ends the run, and its place on the sheet.
-#[derive(Clone, Copy)]
+#[derive(Clone, Copy, Debug, PartialEq, Eq)]
 pub struct Stop {
     pub refusal: Refusal,
     pub place: usize,
 }
 
-/// Which detector a sheet asks for.
-#[derive(Clone, Copy)]
-pub enum DetectorChoice {
-    Bare,
-    Relaxed,
-    /// Over one to three variables, rising; behind them 255 for none.
-    Pattern([u8; 3]),
+impl Stop {
+    /// A refusal of what stands at a place of the sheet. A sheet that ends too early is told at its end.
+    pub(crate) fn at(end: usize, place: usize, refusal: Refusal) -> Stop
+        ensures { result ≡ stop_at end place refusal }
+    {
+        match refusal {
+            Refusal::SheetEnds => Stop {
+                refusal,
+                place: end,
+            },
+            _ => Stop { refusal, place },
+        }
+    }
 }
 
 /// How a sheet opens. It is shown as the lines that are printed of it.
@@ -47,12 +59,12 @@ pub enum Opening {
     /// It ends behind the choice of its detector.
     Ended {
         model: Model,
-        choice: DetectorChoice,
+        choice: Choice,
     },
     /// It goes on behind the choice of its detector, at the place `orders`.
     Orders {
         model: Model,
-        choice: DetectorChoice,
+        choice: Choice,
         orders: usize,
     },
 }
@@ -71,21 +83,32 @@ pub fn open_sheet(heap: Global, sheet: &[u8]) -> Result<Opening, AllocError>
         };
         return Ok(Opening::Unsealed(stop));
     }
-    let SealedAt { model, next } = match read_model(heap, sheet)? {
-        Ok(sealed) => sealed,
-        Err(stop) => return Ok(Opening::Unsealed(stop)),
-    };
+    let blank = Stage::Variables(NamingVariables::new(heap)?);
+    match read_model(blank, sheet) {
+        Ok(sealed) => Ok(open_behind(sealed, sheet)),
+        Err(stop) => Ok(Opening::Unsealed(stop)),
+    }
+}
+
+/// A sheet whose model is sealed, with what its detector part comes to.
+fn open_behind(sealed: Followed<Model>, sheet: &[u8]) -> Opening
+    ensures { opening_told result ≡ opened_by (length sheet.now) (model_part_told sheet.now (Ok sealed)) }
+{
+    let Followed { value: model, next } = sealed;
     match read_detector(&model, sheet, next) {
-        Ok(chosen) => Ok(open_behind(model, chosen, sheet.len())),
-        Err(stop) => Ok(Opening::Unchosen { model, stop }),
+        Ok(chosen) => open_chosen(model, chosen, sheet.len()),
+        Err(stop) => Opening::Unchosen { model, stop },
     }
 }
 
 /// A sheet whose detector is chosen, and which ends there or goes on.
-fn open_behind(model: Model, chosen: ChosenAt, end: usize) -> Opening
-    ensures { opening_told result ≡ behind_model end (recorded model) (Ok (detector_told chosen.choice, chosen.next)) }
+fn open_chosen(model: Model, chosen: Followed<Choice>, end: usize) -> Opening
+    ensures { opening_told result ≡ behind_model end (recorded model) (Ok (followed_told chosen_told chosen)) }
 {
-    let ChosenAt { choice, next } = chosen;
+    let Followed {
+        value: choice,
+        next,
+    } = chosen;
     if next == end {
         Opening::Ended { model, choice }
     } else {
@@ -97,21 +120,25 @@ fn open_behind(model: Model, chosen: ChosenAt, end: usize) -> Opening
     }
 }
 
-fn model_line(model: &Model) -> Line
-    ensures { result ≡ model_line (recorded model.now) }
-{
-    Line::Model {
-        variables: model.variables().len(),
-        moves: model.moves().len(),
+impl From<&Model> for Line {
+    ghost from_gives = { λ model line. line ≡ model_line (recorded model.now) };
+
+    fn from(model: &Model) -> Line {
+        Line::Model {
+            variables: model.variables().len(),
+            moves: model.moves().len(),
+        }
     }
 }
 
-fn stop_line(stop: &Stop) -> Line
-    ensures { result ≡ stop_line stop.now }
-{
-    Line::Stop {
-        number: stop.refusal.number(),
-        place: stop.place,
+impl From<Stop> for Line {
+    ghost from_gives = { λ stop line. line ≡ stop_line stop };
+
+    fn from(stop: Stop) -> Line {
+        Line::Stop {
+            number: stop.refusal.number(),
+            place: stop.place,
+        }
     }
 }
 
@@ -120,24 +147,15 @@ impl fmt::Display for Opening {
 
     fn fmt<W: fmt::Write>(&self, f: &mut fmt::Formatter<W>) -> fmt::Result {
         match self {
-            Opening::Unsealed(stop) => {
-                let last = stop_line(stop);
-                write!(f, "{last}\n")
-            }
-            Opening::Unchosen { model, stop } => {
-                let first = model_line(model);
-                let last = stop_line(stop);
-                write!(f, "{first}\n{last}\n")
-            }
-            Opening::Ended { model, .. } => {
-                let first = model_line(model);
-                let last = Line::End;
-                write!(f, "{first}\n{last}\n")
-            }
-            Opening::Orders { model, .. } => {
-                let first = model_line(model);
-                write!(f, "{first}\n")
-            }
+            Opening::Unsealed(stop) => writeln!(f, "{}", Line::from(*stop)),
+            Opening::Unchosen { model, stop } => writeln!(
+                f,
+                "{}\n{}",
+                Line::from(model),
+                Line::from(*stop)
+            ),
+            Opening::Ended { model, .. } => writeln!(f, "{}\n{}", Line::from(model), Line::End),
+            Opening::Orders { model, .. } => writeln!(f, "{}", Line::from(model)),
         }
     }
 }

@@ -3,7 +3,7 @@ ghost use Rattle.std.specs.Prelude.{◌≡◌};
 ghost use Rattle.detector.specs.Verdicts.{says_dead};
 
 /// A verdict on a row.
-#[derive(Clone, Copy)]
+#[derive(Clone, Copy, PartialEq, Eq)]
 pub enum Verdict {
     /// No state that contains the row has a plan.
     Dead,
@@ -12,13 +12,21 @@ pub enum Verdict {
 }
 
 impl Verdict {
+    /// The verdict on a row that is dead or not.
+    pub fn dead_if(is_dead: bool) -> Verdict
+        ensures { says_dead result ≡ is_dead }
+    {
+        if is_dead {
+            Verdict::Dead
+        } else {
+            Verdict::Silent
+        }
+    }
+
     /// Whether the row is called dead.
     pub fn is_dead(self) -> bool
         ensures { result ≡ says_dead self }
     {
-        match self {
-            Verdict::Dead => true,
-            Verdict::Silent => false,
-        }
+        self == Verdict::Dead
     }
 }

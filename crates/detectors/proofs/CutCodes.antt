@@ -1,6 +1,6 @@
 -- Cuts that give their variables, each by a value below its size: there are no more of them than the product of the sizes.
-use Rattle.std.proofs.Common.{◌≡◌, ℕ, ◌+◌, ◌*◌, ◌/◌, ◌%◌, ◌<◌, ◌≤◌, true, List, is_some, Some, None, Option, sym, refl, ap, ◌∙◌, subst, ⊎_elim, arith}
-use Rattle.std.proofs.lemmas.Nat.{mul-add-lt, div-mul-add, mod-mul-add}
+use Rattle.std.proofs.Common.{◌≡◌, ℕ, ◌+◌, ◌*◌, ◌<◌, ◌≤◌, true, List, is_some, Some, None, Option, sym, refl, ap, ◌∙◌, subst, ⊎_elim, arith}
+use Rattle.std.proofs.lemmas.Nat.{mul-add-lt}
 use Rattle.std.proofs.lemmas.Bool.{and_parts, false≢true, ltb-true, cases_lt}
 use Rattle.model.specs.declared.row.Row.{Row}
 use Rattle.model.specs.declared.moves.Move.{Move}
@@ -15,6 +15,7 @@ use Rattle.detectors.specs.declared.pattern.variables.Variables.{Variables}
 use Rattle.detectors.specs.Cuts.{entry_of, cut_of, cut_move, progression_cut}
 use Rattle.detectors.specs.PatternMeaning.{size_or_one, product_of_sizes, given_at, gives}
 use Rattle.detectors.specs.CutSameness.{from_entries}
+use Rattle.detectors.specs.Digits.{digits}
 
 abbrev value : Option ℕ → ℕ
 value None = 0
@@ -74,13 +75,6 @@ module _ (vs : List Variable) where
         mul-add-lt (behind_first t) (size_at vs x.first) (value t.first) (size_or_one vs x.second * size_or_one vs x.third)
         (mul-add-lt (value t.third) (size_or_one vs x.second) (value t.second) (size_or_one vs x.third) (value_below x.third t.third m.2) (value_below x.second t.second m.1))
         (value_below (Some x.first) t.first m.0)
-
-    -- the digits of a number
-    digits : (a b c d n : ℕ) → b < n → d < n → a * n + b ≡ c * n + d → (a ≡ c) × (b ≡ d)
-    digits a b c d n p q e = (
-      sym (div-mul-add a n b p) ∙ ap (λ k. k / n) e ∙ div-mul-add c n d q,
-      sym (mod-mul-add a n b p) ∙ ap (λ k. k % n) e ∙ mod-mul-add c n d q,
-    )
 
     pub code_apart : (s t : Cut) → May s → May t → code_of s ≡ code_of t → s ≡ t
     code_apart s t m n e =

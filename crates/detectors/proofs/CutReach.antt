@@ -12,7 +12,7 @@ use Rattle.model.specs.declared.moves.Move.{Move}
 use Rattle.model.specs.Members.{Among}
 use Rattle.model.specs.Limits.{row_fits, move_fits}
 use Rattle.model.specs.Records.{ModelRecord, row_of_model, Sealed}
-use Rattle.model.proofs.Members.{every_among}
+use Rattle.model.proofs.Members.{all_among}
 use Rattle.detectors.specs.declared.pattern.cut.Cut.{Cut}
 use Rattle.detectors.specs.declared.pattern.cut.CutMove.{CutMove}
 use Rattle.detectors.specs.declared.pattern.variables.Variables.{Variables}
@@ -89,7 +89,7 @@ module _
 
   move_inside : (a : Move) → Among d.moves a → (s : Cut) → Inside s → Inside (progression_cut (cut_move x a) s)
   move_inside a among s m =
-      let both = every_among (move_fits d.variables) d.moves a ok.move_values_below_sizes among in
+      let both = all_among (move_fits d.variables) d.moves a ok.move_values_below_sizes among in
       progression_may d.variables x a (and_parts (row_fits d.variables a.conditions) _ both).1 s m
 
   -- what goes along with the model's moves holds of every listed cut

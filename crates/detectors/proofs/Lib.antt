@@ -1,10 +1,9 @@
-pub mod SameFacts
+pub mod Entries
 pub mod FactsOfRows
 pub mod Rounds
 pub mod Limited
 pub mod ReachedDecided
 pub mod RelaxedLaws
-pub mod CutMarks
 pub mod CutLaws
 pub mod CutRows
 pub mod CutCodes
@@ -14,4 +13,3 @@ pub mod CutReach
 pub mod PatternLaws
 pub mod WorkedVerdicts
 pub mod ShippedLaws
-pub mod MadeByKind

@@ -7,7 +7,7 @@ use Rattle.model.specs.Limits.{size_at, size_fits, sizes_fit, no_variable}
 use Rattle.model.specs.Records.{ModelRecord, Sealed}
 use Rattle.detectors.specs.declared.relaxed.fact.Fact.{Fact}
 use Rattle.detectors.specs.Facts.{fact_number}
-use Rattle.detectors.proofs.SameFacts.{numbers_apart}
+use Rattle.detectors.specs.FactMarking.{numbers_apart}
 
 -- a variable that has values is one of the model
 pub sized_below : (vs : List Variable) (v x : ℕ) → x < size_at vs v → v < length vs

@@ -11,7 +11,7 @@ use Rattle.model.specs.Limits.{size_at, row_fits, move_fits}
 use Rattle.model.specs.Members.{Among}
 use Rattle.model.specs.Records.{ModelRecord, Sealed, row_of_model}
 use Rattle.model.specs.Rows.{at}
-use Rattle.model.proofs.Members.{every_among}
+use Rattle.model.proofs.Members.{all_among}
 use Rattle.detectors.specs.declared.relaxed.fact.Fact.{Fact}
 use Rattle.detectors.specs.Facts.{fact_of, same_fact, fact_number, row_facts, given_facts, all_reached}
 use Rattle.detectors.specs.Closure.{try_move, round, rounds, closure, no_facts, first_facts, goal_missed}
@@ -101,7 +101,7 @@ module _ (d : ModelRecord) (row : Row) where
 
     effects_below : (m : Move) → Among d.moves m → (v x : ℕ) → at m.effects v ≡ Some x → Below v x
     effects_below m among v x g =
-        let both = every_among (move_fits d.variables) d.moves m sealed.move_values_below_sizes among in
+        let both = all_among (move_fits d.variables) d.moves m sealed.move_values_below_sizes among in
         given_fits d.variables m.effects (and_parts (row_fits d.variables m.conditions) _ both).1 v x g
 
     listed_limited : (f : Fact) → has same_fact (arrived final) f ≡ true → Limited f

@@ -12,7 +12,7 @@ use Rattle.model.specs.Records.{ModelRecord, Sealed, row_of_model, state_of_mode
 use Rattle.model.specs.Rows.{at, keeps, differ, contained}
 use Rattle.model.proofs.BelowFacts.{all_below_decides}
 use Rattle.model.proofs.Containment.{contained_at}
-use Rattle.model.proofs.Members.{nth_among, every_among}
+use Rattle.model.proofs.Members.{nth_among, all_among}
 use Rattle.model.proofs.Progressions.{differ_nowhere, state_progresses}
 use Rattle.model.proofs.RowFacts.{at_row_of}
 use Rattle.detector.specs.Laws.{Lawful}
@@ -44,7 +44,7 @@ module _ (d : ModelRecord) (sealed : Sealed d) where
   reached_from_smaller r t h _ _ (added m among conditions v x g) = added m among (λ u y q. reached_from_smaller r t h u y (conditions u y q)) v x g
 
   move_limits : (m : Move) → Among d.moves m → move_fits d.variables m ≡ true
-  move_limits m among = every_among (move_fits d.variables) d.moves m sealed.move_values_below_sizes among
+  move_limits m among = all_among (move_fits d.variables) d.moves m sealed.move_values_below_sizes among
 
   -- all facts of a row are reached from another
   abbrev FactsReached : Row → Row → Type 0

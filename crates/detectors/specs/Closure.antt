@@ -1,5 +1,5 @@
 -- The dead set of the relaxed detector, as it is worked out: facts are listed until the moves add none.
-use Rattle.std.specs.Prelude.{ℕ, zero, suc, ◌-◌, Bool, cond, not, ◌&&◌, List, [], ◌∷◌, length, replicate}
+use Rattle.std.specs.Prelude.{ℕ, zero, suc, ◌-◌, Bool, cond, not, ◌&&◌, List, length, replicate, fold}
 use Rattle.first_come.specs.Arrivals.{Kept, kept, arrived, keep_all}
 use Rattle.model.specs.declared.row.Row.{Row}
 use Rattle.model.specs.declared.moves.Move.{Move}
@@ -13,8 +13,7 @@ try_move k m = cond (all_reached (arrived k) m.conditions) (keep_all same_fact k
 
 -- each move is tried once, in order
 abbrev pub round : Kept Fact → List Move → Kept Fact
-round k [] = k
-round k (m ∷ ms) = round (try_move k m) ms
+round k ms = fold try_move k ms
 
 -- n rounds
 abbrev pub rounds : ℕ → Kept Fact → List Move → Kept Fact

@@ -1,6 +1,6 @@
 -- A walk in order of arrival over cuts.
-use Rattle.std.specs.Prelude.{ℕ, zero, suc, ◌+◌, Bool, false, cond, not, ◌||◌, List, [], ◌∷◌, ◌++◌, replicate, Some, None, Option}
-use Rattle.std.specs.List.{slice_get}
+use Rattle.std.specs.Prelude.{ℕ, zero, suc, ◌+◌, Bool, cond, not, List, [], ◌∷◌, flat_map, replicate, Some, None, Option}
+use Rattle.std.specs.List.{slice_get, list_any}
 use Rattle.first_come.specs.Arrivals.{Kept, kept, arrived, keep, keep_all}
 use Rattle.detectors.specs.declared.pattern.cut.Cut.{Cut}
 use Rattle.detectors.specs.declared.pattern.cut.CutMove.{CutMove}
@@ -15,8 +15,7 @@ result_of m t = cond (applicable_cut m t) (progression_cut m t ∷ []) []
 
 -- where the moves lead
 abbrev pub results : List CutMove → Cut → List Cut
-results [] t = []
-results (m ∷ ms) t = result_of m t ++ results ms t
+results ms t = flat_map (λ m. result_of m t) ms
 
 -- the list as it is, or what is made of it with the cut that was read
 abbrev pub if_read : Option Cut → Kept Cut → (Cut → Kept Cut) → Kept Cut
@@ -34,8 +33,7 @@ walked ms first = walk_from 512 0 (keep same_cut (kept (replicate 512 open_cut) 
 
 -- one of the cuts contains the goal
 abbrev pub some_contains : Cut → List Cut → Bool
-some_contains goal [] = false
-some_contains goal (t ∷ ts) = contained_cut goal t || some_contains goal ts
+some_contains goal ts = list_any (contained_cut goal) ts
 
 -- none of those reached contains the goal
 unfoldable pub cut_off : List CutMove → Cut → Cut → Bool

@@ -1,7 +1,6 @@
 -- Facts, each a variable with a value, and the facts of a row.
 use Rattle.std.specs.Prelude.{ℕ, zero, suc, ◌+◌, ◌*◌, Bool, true, cond, ◌&&◌, List, [], ◌∷◌, ◌++◌, Some, None, Option, ◌==◌, nat_lt}
-use Rattle.first_come.specs.Arrivals.{Kept, arrived, has}
-use Rattle.first_come.specs.Marks.{Agree}
+use Rattle.first_come.specs.Arrivals.{has}
 use Rattle.model.specs.declared.row.Row.{Row}
 use Rattle.model.specs.declared.variable.Variable.{Variable}
 use Rattle.model.specs.Below.{all_below}
@@ -24,10 +23,6 @@ fact_number f = 16 * f.variable + f.value
 -- its mark in a table, if its value has a number among those of its variable
 abbrev pub mark_of : Fact → Option ℕ
 mark_of f = cond (nat_lt f.value 16) (Some (fact_number f)) None
-
--- the marks are true of the facts that are listed
-abbrev pub Marked : List Bool → Kept Fact → Type 0
-Marked marks k = Agree same_fact mark_of marks (arrived k)
 
 -- the facts that f gives at n numbers, from i on
 unfoldable pub facts_from : (ℕ → List Fact) → ℕ → ℕ → List Fact

@@ -11,7 +11,13 @@ pub mod PatternMeaning
 pub mod Patterns
 pub mod WorkedModels
 pub mod WorkedVerdicts
+pub mod Choosing
 pub mod Shipping
 pub mod CutSameness
 pub mod SameFacts
+pub mod Digits
+pub mod CutMarking
+pub mod FactMarking
 pub mod ShippedRows
+pub mod ReachedList
+pub mod WalkedList

@@ -3,7 +3,8 @@ use Rattle.std.specs.Prelude.{ℕ, ◌+◌, ◌*◌, Bool, false, cond, List, []
 use Rattle.refusal.specs.declared.Refusal.{Refusal}
 use Rattle.refusal.specs.declared.Refusal.TheVariants.{WrongOperands}
 use Rattle.model.specs.declared.variable.Variable.{Variable}
-use Rattle.model.specs.Limits.{every, size_of}
+use Rattle.model.specs.Limits.{size_of}
+use Rattle.std.specs.List.{list_all}
 use Rattle.detectors.specs.declared.pattern.variables.Variables.{Variables}
 
 -- the operand 255 gives no variable
@@ -23,7 +24,7 @@ times (Some a) (Some b) = Some (a * b)
 -- that is not.
 abbrev pub further_product : List Variable → ℕ → List ℕ → Option ℕ
 further_product vs lowest [] = Some 1
-further_product vs lowest (v ∷ rest) = cond (none_given v) (cond (every none_given rest) (Some 1) None) (times (size_from vs lowest v) (further_product vs (v + 1) rest))
+further_product vs lowest (v ∷ rest) = cond (none_given v) (cond (list_all none_given rest) (Some 1) None) (times (size_from vs lowest v) (further_product vs (v + 1) rest))
 
 -- the same, where the first operand has to give one
 abbrev pub pattern_product : List Variable → ℕ → List ℕ → Option ℕ

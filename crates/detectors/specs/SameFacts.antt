@@ -2,7 +2,7 @@
 use Rattle.std.specs.Prelude.{◌≡◌, true, ◌==◌, refl}
 use Rattle.std.proofs.Common.{ap, ◌∙◌}
 use Rattle.std.proofs.lemmas.Bool.{eqb-true, eq-eqb, and_parts, and_from}
-use Rattle.first_come.specs.Sameness.{Equivalence}
+use Rattle.std.specs.Cmp.{IsEquivalence}
 use Rattle.first_come.proofs.Sameness.{from_equality}
 use Rattle.detectors.specs.declared.relaxed.fact.Fact.{Fact}
 use Rattle.detectors.specs.Facts.{fact_of, same_fact}
@@ -19,5 +19,5 @@ fact_equal f g h =
     let parts = and_parts (f.variable == g.variable) (f.value == g.value) h in
     fact_ext f g (eqb-true _ _ parts.0) (eqb-true _ _ parts.1)
 
-pub same_fact_equivalence : Equivalence same_fact
+pub same_fact_equivalence : IsEquivalence same_fact
 same_fact_equivalence = from_equality same_fact fact_self fact_equal

@@ -1,21 +1,19 @@
 -- The detectors that ship: what each means, and which is made of a kind and its operands.
-use Rattle.std.specs.Prelude.{◌≡◌, ℕ, Bool, false, cond, List, [], ◌∷◌, Some, None, Ok, Err, Option, Result, ◌==◌, nat_lt, slice_index}
+use Rattle.std.specs.Prelude.{◌≡◌, ℕ, Bool, false, cond, [], ◌∷◌, Ok, Err, Result, ◌==◌, slice_index}
 use Rattle.refusal.specs.declared.Refusal.{Refusal}
-use Rattle.refusal.specs.declared.Refusal.TheVariants.{UnknownKind, WrongOperands}
 use Rattle.model.specs.declared.row.Row.{Row}
-use Rattle.model.specs.declared.variable.Variable.{Variable}
 use Rattle.model.specs.Drafts.{recorded}
-use Rattle.model.specs.Limits.{every}
 use Rattle.model.specs.Records.{ModelRecord}
 use Rattle.detector.specs.Laws.{Lawful}
 use Rattle.detectors.specs.declared.bare.Bare.{Bare as BareDetector}
 use Rattle.detectors.specs.declared.shipped.Shipped.{Shipped}
 use Rattle.detectors.specs.declared.shipped.Shipped.TheVariants.{Bare, Relaxed, Pattern}
 use Rattle.detectors.specs.declared.unmade.Unmade.{Unmade}
-use Rattle.detectors.specs.declared.pattern.variables.Variables.{Variables}
+use Rattle.detectors.specs.declared.choosing.Choice.{Choice}
+use Rattle.detectors.specs.Choosing.{Detector, operands_of, chosen_told, kind_answer}
 use Rattle.detectors.specs.Closure.{relaxed_dead}
 use Rattle.detectors.specs.RelaxedMeaning.{relaxed_model}
-use Rattle.detectors.specs.Operands.{none_given, pattern_product, small_enough, variables_of}
+use Rattle.detectors.specs.Operands.{variables_of}
 use Rattle.detectors.specs.PatternMeaning.{pattern_dead}
 use Rattle.detectors.specs.Patterns.{pattern_model, pattern_variables}
 
@@ -43,37 +41,11 @@ shipped_dead (Pattern detector) row = pattern_dead (pattern_model detector) (pat
 unfoldable pub EveryShippedDetectorIsLawful : Type 0
 EveryShippedDetectorIsLawful = (s : Shipped) → Lawful (shipped_model s) (shipped_dead s)
 
--- a detector's kind and its three operands
-abbrev pub Detector : Type 0
-Detector = ℕ × List ℕ
-
--- the operand that gives a variable, or 255 for none
-abbrev pub operand_of : Option ℕ → ℕ
-operand_of None = 0xff
-operand_of (Some v) = v
-
-abbrev pub operands_of : Variables → List ℕ
-operands_of x = x.first ∷ operand_of x.second ∷ operand_of x.third ∷ []
-
 -- the kind of a detector and its operands
 abbrev pub detector_told : Shipped → Detector
 detector_told (Bare detector) = (0, 0xff ∷ 0xff ∷ 0xff ∷ [])
 detector_told (Relaxed detector) = (1, 0xff ∷ 0xff ∷ 0xff ∷ [])
 detector_told (Pattern detector) = (2, operands_of (pattern_variables detector))
-
--- the detector that is made, or why none is
-abbrev pub Choice : Type 0
-Choice = Result Detector Refusal
-
--- the bare and the relaxed detector take no variable, a pattern takes one to three
-abbrev pub operands_fit : List Variable → ℕ → ℕ → List ℕ → Bool
-operands_fit vs kind first rest = cond (kind == 2) (small_enough (pattern_product vs first rest)) (every none_given (first ∷ rest))
-
--- kinds above 2 are refused, and then operands that do not fit
-abbrev pub kind_answer : List Variable → ℕ → ℕ → ℕ → ℕ → Choice
-kind_answer vs kind first second third =
-    cond {A = Choice} (nat_lt 2 kind) (Err UnknownKind)
-    (cond {A = Choice} (operands_fit vs kind first (second ∷ third ∷ [])) (Ok (kind, first ∷ second ∷ third ∷ [])) (Err WrongOperands))
 
 -- the dead set of a kind with its operands
 abbrev pub kind_dead : ModelRecord → ℕ → ℕ → ℕ → ℕ → Row → Bool
@@ -81,7 +53,7 @@ kind_dead d kind first second third row =
     cond (kind == 0) (bare_dead d row) (cond (kind == 1) (relaxed_dead d row) (pattern_dead d (variables_of first second third) row))
 
 -- what came of making a detector
-abbrev pub made_told : Result Shipped Unmade → Choice
+abbrev pub made_told : Result Shipped Unmade → Result Detector Refusal
 made_told (Ok s) = Ok (detector_told s)
 made_told (Err u) = Err u.refusal
 
@@ -109,3 +81,9 @@ pub record Makes (d : ModelRecord) (kind first second third : ℕ) (made : Resul
   pub answer : made_told made ≡ kind_answer d.variables kind first second third
   pub model : model_told made ≡ d
   pub meaning : MadeMeansWhatIsTold made
+
+-- What comes of a choice for the model d: the detector that is told as the choice is, with that model and its dead set.
+pub record MakesChosen (d : ModelRecord) (choice : Choice) (made : Shipped) : Type 0 where
+  pub told : detector_told made ≡ chosen_told choice
+  pub model : shipped_model made ≡ d
+  pub meaning : MeansWhatIsTold made

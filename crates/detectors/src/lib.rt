@@ -2,6 +2,7 @@
 #![tactic(auto)]
 
 pub mod bare;
+pub mod choosing;
 pub mod making;
 pub mod pattern;
 pub mod relaxed;

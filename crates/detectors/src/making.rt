@@ -1,13 +1,12 @@
 //! A detector is made by its kind and its operands.
-ghost use Rattle.std.specs.Prelude.{◌≡◌, ◌<◌, [], ◌∷◌, IfOk, slice_index};
+ghost use Rattle.std.specs.Prelude.{IfOk, slice_index};
 ghost use Rattle.model.specs.Drafts.{recorded};
-ghost use Rattle.model.specs.Limits.{every};
-ghost use Rattle.detectors.specs.Operands.{none_given};
-ghost use Rattle.detectors.specs.Shipping.{Makes, EveryShippedDetectorIsLawful};
+ghost use Rattle.detectors.specs.Choosing.{FitsModel};
+ghost use Rattle.detectors.specs.Shipping.{Makes, MakesChosen, EveryShippedDetectorIsLawful};
 
 use crate::bare::Bare;
+use crate::choosing::{Choice, choose};
 use crate::pattern::Pattern;
-use crate::pattern::operands::NONE;
 use crate::relaxed::Relaxed;
 use crate::shipped::Shipped;
 use crate::unmade::Unmade;
@@ -26,52 +25,20 @@ pub fn make(
     ensures makes { IfOk result (Makes (recorded model) kind (slice_index operands 0) (slice_index operands 1) (slice_index operands 2)) }
     ensures lawful { EveryShippedDetectorIsLawful }
 {
-    match kind {
-        0 | 1 => Ok(make_without_variables(model, kind, operands)),
-        2 => make_pattern(heap, model, operands),
-        _ => Ok(Err(Unmade {
-            model,
-            refusal: Refusal::UnknownKind,
-        })),
+    match choose(&model, kind, operands) {
+        Ok(choice) => Ok(Ok(make_chosen(heap, model, choice)?)),
+        Err(refusal) => Ok(Err(Unmade { model, refusal })),
     }
 }
 
-/// The bare or the relaxed detector.
-fn make_without_variables(model: Model, kind: u8, operands: [u8; 3]) -> Result<Shipped, Unmade>
-    requires { kind < 2 }
-    ensures { Makes (recorded model) kind (slice_index operands 0) (slice_index operands 1) (slice_index operands 2) result }
+/// The detector that was chosen for the model.
+fn make_chosen(heap: Global, model: Model, choice: Choice) -> Result<Shipped, AllocError>
+    requires { FitsModel (recorded model).variables choice }
+    ensures { IfOk result (MakesChosen (recorded model) choice) }
 {
-    if !gives_none(operands) {
-        return Err(Unmade {
-            model,
-            refusal: Refusal::WrongOperands,
-        });
+    match choice {
+        Choice::Bare => Ok(Shipped::Bare(Bare::new(model))),
+        Choice::Relaxed => Ok(Shipped::Relaxed(Relaxed::new(model))),
+        Choice::Pattern(variables) => Ok(Shipped::Pattern(Pattern::of(heap, model, variables)?)),
     }
-    if kind == 0 {
-        Ok(Shipped::Bare(Bare::new(model)))
-    } else {
-        Ok(Shipped::Relaxed(Relaxed::new(model)))
-    }
-}
-
-/// A pattern over the variables that the operands give.
-fn make_pattern(
-    heap: Global,
-    model: Model,
-    operands: [u8; 3],
-) -> Result<Result<Shipped, Unmade>, AllocError>
-    ensures { IfOk result (Makes (recorded model) 2 (slice_index operands 0) (slice_index operands 1) (slice_index operands 2)) }
-{
-    match Pattern::over(heap, model, operands)? {
-        Ok(pattern) => Ok(Ok(Shipped::Pattern(pattern))),
-        Err(unmade) => Ok(Err(unmade)),
-    }
-}
-
-/// Whether no operand gives a variable.
-fn gives_none(operands: [u8; 3]) -> bool
-    ensures { result ≡ every none_given (slice_index operands 0 ∷ slice_index operands 1 ∷ slice_index operands 2 ∷ []) }
-{
-    let [first, second, third] = operands;
-    first == NONE && second == NONE && third == NONE
 }

@@ -51,10 +51,6 @@ impl Detector for Relaxed {
     }
 
     fn verdict(&self, row: &Row) -> Verdict {
-        if self.model.fits(row) && goal_missed(&self.model, row) {
-            Verdict::Dead
-        } else {
-            Verdict::Silent
-        }
+        Verdict::dead_if(self.model.fits(row) && goal_missed(&self.model, row))
     }
 }

@@ -1,9 +1,9 @@
 -- Laws of first-come lists.
-use Rattle.std.proofs.Common.{◌≡◌, ℕ, suc, ◌+◌, ◌<◌, Bool, true, false, cond, ◌||◌, List, [], ◌∷◌, ◌++◌, length, get_or, drop, sym, refl, ap, ◌∙◌, subst}
-use Rattle.std.proofs.lemmas.List.{take_more_set, at_drop_more}
-use Rattle.std.proofs.lemmas.Bool.{or_parts, or_from, both_ways, cond_both, ltb-true}
-use Rattle.first_come.specs.Sameness.{Equivalence}
-use Rattle.first_come.specs.Arrivals.{Kept, arrived, has, place_of, has_room, with_next, put_unless, keep, Distinct, InOrderOfArrival}
+use Rattle.std.proofs.Common.{◌≡◌, Bool, true, false, ◌||◌, List, [], ◌∷◌, ◌++◌, length, sym, refl, ap, ◌∙◌, subst}
+use Rattle.std.proofs.lemmas.List.{take_more_set}
+use Rattle.std.proofs.lemmas.Bool.{or_parts, or_from, cond_both, ltb-true}
+use Rattle.std.specs.Cmp.{IsEquivalence}
+use Rattle.first_come.specs.Arrivals.{Kept, arrived, has, has_room, with_next, put_unless, keep, Distinct}
 
 pub or_false : (a : Bool) → (a || false) ≡ a
 or_false true = refl
@@ -27,40 +27,22 @@ module _ {T : Type 0} (k : Kept T) (x : T) where
   arrived_next room = take_more_set k.places k.len x (ltb-true k.len (length k.places) room)
 
 module _ {T : Type 0} (same : T → T → Bool) where
-  pub has_at : (xs : List T) (x : T) (i : ℕ) (y : T) → i < length xs → y ≡ get_or xs i y → has same (drop i xs) x ≡ (same y x || has same (drop (i + 1) xs) x)
-  has_at xs x i y h read = at_drop_more (λ l. has same l x) xs i y h ∙ rw (sym read) refl
-
-  pub place_at : (xs : List T) (x : T) (i : ℕ) (y : T) → i < length xs → y ≡ get_or xs i y → place_of same (drop i xs) x ≡ cond (same y x) 0 (suc (place_of same (drop (i + 1) xs) x))
-  place_at xs x i y h read = at_drop_more (λ l. place_of same l x) xs i y h ∙ rw (sym read) refl
-
   pub has_push : (xs : List T) (x y : T) → has same (xs ++ x ∷ []) y ≡ (has same xs y || same x y)
   has_push [] x y = or_false (same x y)
   has_push (z ∷ zs) x y = ap (λ b. same z y || b) (has_push zs x y) ∙ sym (or_assoc (same z y) (has same zs y) (same x y))
 
-  pub in_order : (k : Kept T) (x : T) → InOrderOfArrival same k x (keep same k x)
-  in_order k x =
-      cond_both (has same (arrived k) x) k (cond (has_room k) (with_next k x) k) (λ n. arrived n ≡ cond (has same (arrived k) x) (arrived k) (cond (has_room k) (arrived k ++ x ∷ []) (arrived k)))
-      (λ there. rw there refl)
-      (λ new. cond_both (has_room k) (with_next k x) k (λ n. arrived n ≡ cond (has same (arrived k) x) (arrived k) (cond (has_room k) (arrived k ++ x ∷ []) (arrived k)))
-      (λ room. arrived_next k x room ∙ rw (new, room) refl)
-      (λ full. rw (new, full) refl))
-
-  pub distinct_push : Equivalence same → (xs : List T) (x : T) → Distinct same xs → has same xs x ≡ false → Distinct same (xs ++ x ∷ [])
+  pub distinct_push : IsEquivalence same → (xs : List T) (x : T) → Distinct same xs → has same xs x ≡ false → Distinct same (xs ++ x ∷ [])
   distinct_push laws [] x d h = (refl, tt)
   distinct_push laws (y ∷ ys) x d h =
       let apart = or_parts (same y x) (has same ys x) h in
-      let turned : same x y ≡ false = not_true_false (same x y) (λ e. both_ways (same y x) apart.0 (laws.symmetric x y e)) in
-      (has_push ys x y ∙ or_from (has same ys y) (same x y) d.0 turned, distinct_push laws ys x d.1 apart.1)
+      (has_push ys x y ∙ or_from (has same ys y) (same x y) d.0 (laws.symm x y ∙ apart.0), distinct_push laws ys x d.1 apart.1)
 
   -- where an item is listed, the listed items stay apart
-  pub distinct_keep : Equivalence same → (k : Kept T) (x : T) → Distinct same (arrived k) → Distinct same (arrived (keep same k x))
+  pub distinct_keep : IsEquivalence same → (k : Kept T) (x : T) → Distinct same (arrived k) → Distinct same (arrived (keep same k x))
   distinct_keep laws k x d =
       put_cases k x (λ n. Distinct same (arrived n)) (has same (arrived k) x) (λ _. d)
       (λ new room. rw (arrived_next k x room) (distinct_push laws (arrived k) x d new)) (λ _ _. d)
 
   -- the same of what the code keeps
-  pub distinct_after : Equivalence same → (k after : Kept T) (x : T) → after ≡ keep same k x → Distinct same (arrived k) → Distinct same (arrived after)
+  pub distinct_after : IsEquivalence same → (k after : Kept T) (x : T) → after ≡ keep same k x → Distinct same (arrived k) → Distinct same (arrived after)
   distinct_after laws k after x is d = subst (λ n. Distinct same (arrived n)) (sym is) (distinct_keep laws k x d)
-
-  pub in_order_after : (k after : Kept T) (x : T) → after ≡ keep same k x → InOrderOfArrival same k x after
-  in_order_after k after x is = ap arrived is ∙ in_order k x

@@ -1,5 +1,6 @@
 pub mod Sameness
 pub mod Arrivals
+mod Places
 pub mod Growth
 pub mod Pigeons
 pub mod Listings

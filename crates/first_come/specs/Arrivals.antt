@@ -19,6 +19,10 @@ arrived k = take k.len k.places
 abbrev pub has_room : {T : Type 0} → Kept T → Bool
 has_room k = nat_lt k.len (length k.places)
 
+-- the next place, if one is left
+abbrev pub next_place : {T : Type 0} → Kept T → Option ℕ
+next_place k = cond (has_room k) (Some k.len) None
+
 -- x in the next place; no other place changes
 abbrev pub with_next : {T : Type 0} → Kept T → T → Kept T
 with_next k x = kept (slice_set k.places k.len x) (k.len + 1)

@@ -1,4 +1,4 @@
-pub mod Sameness
 pub mod Arrivals
 pub mod Contents
 pub mod Marks
+pub mod MarkedContents

@@ -3,4 +3,5 @@
 
 pub mod list;
 pub mod listed;
-pub mod same;
+pub mod mark;
+pub mod marked;

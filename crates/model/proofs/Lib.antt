@@ -1,4 +1,5 @@
 pub mod BelowFacts
+pub mod Chains
 pub mod Members
 pub mod RowFacts
 pub mod Containment

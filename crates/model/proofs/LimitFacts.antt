@@ -1,13 +1,16 @@
 -- What keeps a model within its limits.
-use Rattle.std.proofs.Common.{◌≡◌, ℕ, zero, suc, ◌-◌, ◌<◌, ◌≤◌, Bool, true, false, cond, ◌≢◌, List, [], ◌∷◌, ◌++◌, length, get_or, set, is_ok, Some, None, refl, ap, ◌∙◌, ⊎_elim, arith, length-append}
-use Rattle.std.proofs.lemmas.List.{get_or-set_same, get_or-set_other, get_or-replicate}
-use Rattle.std.proofs.lemmas.Bool.{and_from, and_parts, cases_eq, cond_both, lt-ltb}
+use Rattle.std.proofs.Common.{◌≡◌, ℕ, ◌-◌, ◌<◌, ◌≤◌, Bool, true, false, cond, ◌≢◌, List, [], ◌∷◌, ◌++◌, length, get_or, set, is_ok, Some, None, refl, ap, ◌∙◌, ⊎_elim, arith}
+use Rattle.std.proofs.lemmas.List.{get_or-set_same, get_or-set_other, get_or-replicate, get_or_past}
+use Rattle.std.proofs.lemmas.Bool.{and_from, and_parts, cases_eq, cases_lt, cond_both, lt-ltb}
 use Rattle.std.proofs.lemmas.Bool.Decides.{nat_tests}
+use Rattle.std.proofs.lemmas.List.Elements.{All-push, All-set, All-get_or}
+use Rattle.std.proofs.lemmas.List.Sums.{AllPass-from_list_all, list_all-from_AllPass}
+use Rattle.std.specs.List.{list_all}
 use Rattle.model.specs.declared.row.Row.{Row}
 use Rattle.model.specs.declared.moves.Move.{Move}
 use Rattle.model.specs.declared.variable.Variable.{Variable}
 use Rattle.model.specs.Rows.{open_row, with_entry}
-use Rattle.model.specs.Limits.{every, size_at, entry_fits, row_fits, move_fits, moves_fit}
+use Rattle.model.specs.Limits.{size_at, entry_fits, row_fits, move_fits, moves_fit}
 use Rattle.model.specs.Tables.{begun, begin_answer, with_begun, last_begun, with_last}
 use Rattle.model.specs.declared.in_hand.Part.{Part}
 use Rattle.model.specs.declared.in_hand.Part.TheVariants.{Conditions, Effects}
@@ -16,31 +19,22 @@ use Rattle.model.proofs.BelowFacts.{all_below_decides}
 
 -- a test that holds of every element of a list
 module _ {X : Type 0} (p : X → Bool) where
-  pub every_push : (xs : List X) (x : X) → every p xs ≡ true → p x ≡ true → every p (xs ++ x ∷ []) ≡ true
-  every_push [] x h e = and_from (p x) true e refl
-  every_push (y ∷ ys) x h e = let hs = and_parts (p y) (every p ys) h in and_from (p y) _ hs.0 (every_push ys x hs.1 e)
+  pub all_push : (xs : List X) (x : X) → list_all p xs ≡ true → p x ≡ true → list_all p (xs ++ x ∷ []) ≡ true
+  all_push xs x h e = list_all-from_AllPass p (xs ++ x ∷ []) (All-push (λ y. p y ≡ true) xs x (AllPass-from_list_all p xs h) e)
 
-  every_set : (xs : List X) (i : ℕ) (x : X) → every p xs ≡ true → p x ≡ true → every p (set xs i x) ≡ true
-  every_set [] i x h e = refl
-  every_set (y ∷ ys) zero x h e = let hs = and_parts (p y) (every p ys) h in and_from (p x) _ e hs.1
-  every_set (y ∷ ys) (suc i) x h e = let hs = and_parts (p y) (every p ys) h in and_from (p y) _ hs.0 (every_set ys i x hs.1 e)
+  all_set : (xs : List X) (i : ℕ) (x : X) → list_all p xs ≡ true → p x ≡ true → list_all p (set xs i x) ≡ true
+  all_set xs i x h e = list_all-from_AllPass p (set xs i x) (All-set (λ y. p y ≡ true) xs i x e (AllPass-from_list_all p xs h))
 
   -- where the default passes too
-  pub every_get_or : (xs : List X) (i : ℕ) (d : X) → every p xs ≡ true → p d ≡ true → p (get_or xs i d) ≡ true
-  every_get_or [] i d h e = e
-  every_get_or (y ∷ ys) zero d h e = (and_parts (p y) (every p ys) h).0
-  every_get_or (y ∷ ys) (suc i) d h e = every_get_or ys i d (and_parts (p y) (every p ys) h).1 e
+  all_get_or : (xs : List X) (i : ℕ) (d : X) → list_all p xs ≡ true → p d ≡ true → p (get_or xs i d) ≡ true
+  all_get_or xs i d h e = ⊎_elim
+      (λ (l : i < length xs). All-get_or (λ y. p y ≡ true) xs i d l (AllPass-from_list_all p xs h))
+      (λ (past : length xs ≤ i). ap p (get_or_past xs i d past) ∙ e)
+      (cases_lt i (length xs))
 
-  pub every_none : (xs : List X) → length xs ≡ 0 → every p xs ≡ true
-  every_none [] e = refl
-  every_none (x ∷ xs) e = let none : ⊥ = omega arith in absurd none
-
-pub with_begun_some : (ms : List Move) (name : List ℕ) → 0 < length ms → 0 < length (with_begun ms name)
-with_begun_some ms name some = cond_both (is_ok (begin_answer ms)) (ms ++ begun name ∷ []) ms (λ l. 0 < length l) (λ _. simp length-append (omega arith)) (λ _. some)
-
-pub first_begun_some : (ms : List Move) (name : List ℕ) → length ms ≡ 0 → 0 < length (with_begun ms name)
-first_begun_some [] name none = omega arith
-first_begun_some (m ∷ ms) name none = let never : ⊥ = omega arith in absurd never
+  pub all_none : (xs : List X) → length xs ≡ 0 → list_all p xs ≡ true
+  all_none [] e = refl
+  all_none (x ∷ xs) e = let none : ⊥ = omega arith in absurd none
 
 module _ (vs : List Variable) where
   pub open_fits : row_fits vs open_row ≡ true
@@ -51,7 +45,7 @@ module _ (vs : List Variable) where
 
   -- the moves with one more, or as they were where there is no room
   pub with_begun_fits : (ms : List Move) (name : List ℕ) → moves_fit vs ms ≡ true → moves_fit vs (with_begun ms name) ≡ true
-  with_begun_fits ms name fit = cond_both (is_ok (begin_answer ms)) (ms ++ begun name ∷ []) ms (λ l. moves_fit vs l ≡ true) (λ _. every_push (move_fits vs) ms (begun name) fit (begun_fits name)) (λ _. fit)
+  with_begun_fits ms name fit = cond_both (is_ok (begin_answer ms)) (ms ++ begun name ∷ []) ms (λ l. moves_fit vs l ≡ true) (λ _. all_push (move_fits vs) ms (begun name) fit (begun_fits name)) (λ _. fit)
 
   -- a row with one more value that is below its variable's size
   with_entry_fits : (row : Row) (i v : ℕ) → i < 32 → row_fits vs row ≡ true → v < size_at vs i → row_fits vs (with_entry row i (Some v)) ≡ true
@@ -73,7 +67,7 @@ module _ (vs : List Variable) where
       ]) refl
 
   last_fits : (ms : List Move) → moves_fit vs ms ≡ true → move_fits vs (last_begun ms) ≡ true
-  last_fits ms h = every_get_or (move_fits vs) ms (length ms - 1) (begun []) h (begun_fits [])
+  last_fits ms h = all_get_or (move_fits vs) ms (length ms - 1) (begun []) h (begun_fits [])
 
   -- a move that fits, with an entry in one of its rows
   move_entered_fits : (part : Part) (m : Move) (i v : ℕ) → length vs ≤ 32 → move_fits vs m ≡ true → move_fits vs (move_entered part vs m i v) ≡ true
@@ -85,4 +79,4 @@ module _ (vs : List Variable) where
       and_from _ _ rows.0 (entered_fits m.effects i v few rows.1)
 
   pub entered_in_last_fits : (part : Part) (ms : List Move) (i v : ℕ) → length vs ≤ 32 → moves_fit vs ms ≡ true → moves_fit vs (with_last ms (move_entered part vs (last_begun ms) i v)) ≡ true
-  entered_in_last_fits part ms i v few fit = every_set (move_fits vs) ms (length ms - 1) _ fit (move_entered_fits part (last_begun ms) i v few (last_fits ms fit))
+  entered_in_last_fits part ms i v few fit = all_set (move_fits vs) ms (length ms - 1) _ fit (move_entered_fits part (last_begun ms) i v few (last_fits ms fit))

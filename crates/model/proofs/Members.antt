@@ -1,8 +1,7 @@
 -- What holds of the elements of a list.
 use Rattle.std.proofs.Common.{◌≡◌, ℕ, zero, suc, Bool, true, List, [], ◌∷◌, Some, subst, inl, inr, ⊎_elim, arith}
 use Rattle.std.proofs.lemmas.Bool.{and_parts}
-use Rattle.std.specs.List.{slice_get}
-use Rattle.model.specs.Limits.{every}
+use Rattle.std.specs.List.{list_all, slice_get}
 use Rattle.model.specs.Members.{Among}
 
 module _ {X : Type 0} where
@@ -13,8 +12,12 @@ module _ {X : Type 0} where
   nth_among (y ∷ ys) (suc n) x is = inr (nth_among ys n x is)
 
   -- what holds of every element holds of each
-  pub every_among : (p : X → Bool) (xs : List X) (x : X) → every p xs ≡ true → Among xs x → p x ≡ true
-  every_among p [] x h a = absurd a
-  every_among p (y ∷ ys) x h a =
-      let parts = and_parts (p y) (every p ys) h in
-      ⊎_elim (λ e. subst (λ z. p z ≡ true) e parts.0) (every_among p ys x parts.1) a
+  pub all_among : (p : X → Bool) (xs : List X) (x : X) → list_all p xs ≡ true → Among xs x → p x ≡ true
+  all_among p [] x h a = absurd a
+  all_among p (y ∷ ys) x h a =
+      let parts = and_parts (p y) (list_all p ys) h in
+      ⊎_elim (λ e. subst (λ z. p z ≡ true) e parts.0) (all_among p ys x parts.1) a
+
+  -- and so of the one at a place
+  pub all_nth : (p : X → Bool) (xs : List X) (n : ℕ) (x : X) → list_all p xs ≡ true → slice_get xs n ≡ Some x → p x ≡ true
+  all_nth p xs n x h is = all_among p xs x h (nth_among xs n x is)

@@ -1,15 +1,11 @@
 -- The limits of a model: at most 32 variables of size 1 to 16, at most 128 moves, and values below their variable's size.
-use Rattle.std.specs.Prelude.{ℕ, Bool, true, cond, ◌&&◌, List, [], ◌∷◌, length, is_some, Some, None, Option, nat_le, nat_lt, slice_index_or}
+use Rattle.std.specs.Prelude.{ℕ, Bool, true, cond, ◌&&◌, List, [], length, is_some, Some, None, Option, nat_le, nat_lt, slice_index_or}
+use Rattle.std.specs.List.{list_all}
 use Rattle.model.specs.declared.row.Row.{Row}
 use Rattle.model.specs.declared.moves.Move.{Move}
 use Rattle.model.specs.declared.variable.Variable.{Variable}
 use Rattle.model.specs.Below.{all_below}
 use Rattle.model.specs.Rows.{at}
-
--- the test holds of every element
-abbrev pub every : {X : Type 0} → (X → Bool) → List X → Bool
-every p [] = true
-every p (x ∷ xs) = p x && every p xs
 
 abbrev pub no_variable : Variable
 no_variable = record { name = []; size = 0 }
@@ -26,7 +22,7 @@ abbrev pub size_fits : ℕ → Bool
 size_fits n = nat_lt 0 n && nat_le n 16
 
 abbrev pub sizes_fit : List Variable → Bool
-sizes_fit vs = every (λ v. size_fits v.size) vs
+sizes_fit vs = list_all (λ v. size_fits v.size) vs
 
 -- an entry of a variable of size n is open, or a value below n
 abbrev pub entry_fits : ℕ → Option ℕ → Bool
@@ -41,7 +37,7 @@ abbrev pub move_fits : List Variable → Move → Bool
 move_fits vs m = row_fits vs m.conditions && row_fits vs m.effects
 
 abbrev pub moves_fit : List Variable → List Move → Bool
-moves_fit vs ms = every (move_fits vs) ms
+moves_fit vs ms = list_all (move_fits vs) ms
 
 -- the row gives every variable
 abbrev pub complete : List Variable → Row → Bool

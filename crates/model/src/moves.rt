@@ -4,6 +4,7 @@ ghost use Rattle.model.specs.Moves.{applicable, next_entry, progression};
 ghost use Rattle.model.specs.MoveLaws.{SmallerRowKeepsMovesApplicable, SmallerRowHasSmallerProgression, ProgressionOfAStateIsItsSuccessor, StatesLeadToStates};
 
 use crate::row::Row;
+use std::array;
 
 /// A move: it may be made where the row does not disagree with its conditions, and then its effects hold.
 #[derive(Clone, Copy)]
@@ -29,11 +30,9 @@ impl Move {
         ensures states { StatesLeadToStates }
         ensures successor { ProgressionOfAStateIsItsSuccessor }
     {
-        let mut entries = [None; 32];
-        for variable in 0..32 {
-            entries[variable] = self.next_entry(row, variable);
+        Row {
+            entries: array::from_fn(|variable| self.next_entry(row, variable)),
         }
-        Row { entries }
     }
 
     /// The effect if given, else the row's entry if given, else the condition if given, else open.

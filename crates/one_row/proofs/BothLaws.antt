@@ -13,7 +13,7 @@ use Rattle.model.specs.Members.{Among}
 use Rattle.model.specs.Records.{ModelRecord, row_of_model}
 use Rattle.model.proofs.BelowFacts.{any_below_decides}
 use Rattle.model.proofs.Containment.{contained_at, contained_transitive}
-use Rattle.model.proofs.Members.{nth_among, every_among}
+use Rattle.model.proofs.Members.{nth_among}
 use Rattle.model.proofs.Progressions.{smaller_applicable, smaller_progression}
 use Rattle.detector.specs.Laws.{Lawful}
 use Rattle.one_row.specs.Standstill.{stays, all_stay, stands_still, one_row_dead}
@@ -37,6 +37,13 @@ agree_in (Some v) None e p q = λ i. false
 agree_in (Some v) (Some w) None p q = absurd (false≢true p)
 agree_in (Some v) (Some w) (Some x) p q = grind (arith, nat_tests)
 
+-- where all moves stay, each does
+each_stays : (r : Row) (ms : List Move) (m : Move) → all_stay ms r ≡ true → Among ms m → stays r m ≡ true
+each_stays r [] m all among = absurd among
+each_stays r (n ∷ ns) m all among =
+    let parts = and_parts (stays r n) (all_stay ns r) all in
+    ⊎_elim (λ e. subst (λ k. stays r k ≡ true) e parts.0) (each_stays r ns m parts.1) among
+
 module _ (d : ModelRecord) (r : Row) (apart : disagree r d.goal ≡ true) (stay : all_stay d.moves r ≡ true) where
   -- no state that contains the row contains the goal
   no_goal : (t : Row) → contained r t ≡ true → contained d.goal t ≡ true → ⊥
@@ -46,12 +53,11 @@ module _ (d : ModelRecord) (r : Row) (apart : disagree r d.goal ≡ true) (stay 
 
   -- a move that is applicable to a state that contains the row leads to one that does
   kept_by : (m : Move) → Among d.moves m → (s : Row) → contained r s ≡ true → applicable m s ≡ true → contained r (progression m s) ≡ true
-  unfolding all_stay
   kept_by m among s within can =
       ⊎_elim
       (λ (never : _). absurd (both_ways (applicable m r) (not-true (applicable m r) never) (still_applicable m r s within can)))
       (λ (stays_in : contained r (progression m r) ≡ true). transitive r (progression m r) (progression m s) stays_in (smaller_after m r s within can))
-      (or_cases _ (contained r (progression m r)) (every_among (stays r) d.moves m stay among))
+      (or_cases _ (contained r (progression m r)) (each_stays r d.moves m stay among))
 
   kept_along : (ns : List ℕ) (s t : Row) → contained r s ≡ true → Leads d s ns t → contained r t ≡ true
   kept_along [] s t within same = subst (λ u. contained r u ≡ true) same within

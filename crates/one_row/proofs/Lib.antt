@@ -1,2 +1,1 @@
-pub mod EveryMove
 pub mod BothLaws

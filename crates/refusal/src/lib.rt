@@ -4,31 +4,31 @@
 ghost use Rattle.std.specs.Prelude.{◌≡◌};
 ghost use Rattle.refusal.specs.Numbers.{refusal_number};
 
-/// The causes for which a sheet, a model or a choice of detector is refused.
-#[derive(Clone, Copy)]
+/// The causes for which a sheet, a model or a choice of detector is refused, each with the number by which it is told.
+#[derive(Clone, Copy, Debug, PartialEq, Eq)]
 pub enum Refusal {
     /// The sheet ends inside a command, or before its detector.
-    SheetEnds,
+    SheetEnds = 1,
     /// No command has this byte.
-    UnknownCommand,
+    UnknownCommand = 2,
     /// The command does not stand where it may.
-    OutOfTurn,
+    OutOfTurn = 3,
     /// A limit is passed: on variables, on moves, or on the bytes of a sheet.
-    TooMany,
+    TooMany = 4,
     /// A variable's size is 0 or above 16.
-    SizeOutOfRange,
+    SizeOutOfRange = 5,
     /// The model has no such variable.
-    NoSuchVariable,
+    NoSuchVariable = 6,
     /// The value is not below the variable's size.
-    ValueTooLarge,
+    ValueTooLarge = 7,
     /// The row has an entry for this variable already.
-    EntryTwice,
+    EntryTwice = 8,
     /// The start leaves a variable open.
-    StartIncomplete,
+    StartIncomplete = 9,
     /// There is no such kind of detector.
-    UnknownKind,
+    UnknownKind = 10,
     /// The detector's operands are not those that its kind takes.
-    WrongOperands,
+    WrongOperands = 11,
 }
 
 impl Refusal {
@@ -36,18 +36,6 @@ impl Refusal {
     pub fn number(self) -> u8
         ensures { result ≡ refusal_number self }
     {
-        match self {
-            Refusal::SheetEnds => 1,
-            Refusal::UnknownCommand => 2,
-            Refusal::OutOfTurn => 3,
-            Refusal::TooMany => 4,
-            Refusal::SizeOutOfRange => 5,
-            Refusal::NoSuchVariable => 6,
-            Refusal::ValueTooLarge => 7,
-            Refusal::EntryTwice => 8,
-            Refusal::StartIncomplete => 9,
-            Refusal::UnknownKind => 10,
-            Refusal::WrongOperands => 11,
-        }
+        self as u8
     }
 }

@@ -1,3 +1,4 @@
 pub mod Reading
+pub mod Refused
 pub mod Commands
 pub mod Laws

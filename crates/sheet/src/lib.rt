@@ -4,16 +4,30 @@
 ghost use Rattle.std.specs.Prelude.{◌≡◌, length, nat_le};
 ghost use Rattle.std.specs.Option.{option_map};
 ghost use Rattle.sheet.specs.Reading.{told, reading};
+ghost use Rattle.sheet.specs.Refused.{refusal_of};
 ghost use Rattle.sheet.specs.Commands.{item_of, item_found};
 ghost use Rattle.sheet.specs.Laws.{ReadingLosesNoByte, CommandsWrittenOutReadBack};
 
+use refusal::Refusal;
+
 /// Why no command can be read.
-#[derive(Clone, Copy)]
+#[derive(Clone, Copy, Debug, PartialEq, Eq)]
 pub enum Fault {
     /// The sheet ends before the command does.
     Cut,
     /// No command has this byte.
     Unknown,
+}
+
+impl From<Fault> for Refusal {
+    ghost from_gives = { λ fault refusal. refusal ≡ refusal_of fault };
+
+    fn from(fault: Fault) -> Refusal {
+        match fault {
+            Fault::Cut => Refusal::SheetEnds,
+            Fault::Unknown => Refusal::UnknownCommand,
+        }
+    }
 }
 
 /// One command of a sheet. The names are parts of the sheet.

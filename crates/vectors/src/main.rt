@@ -16,16 +16,15 @@ fn agrees(rt: &HostRuntime, name: &str) -> anyhow::Result<bool> {
 
 fn run(rt: &HostRuntime) -> anyhow::Result<()> {
     let table = fs::read_to_string(rt, "table.txt")?;
-    let mut sheets = 0usize;
-    let mut differing = 0usize;
+    let mut differing = Vec::new(rt.alloc());
     for name in table.lines() {
-        sheets = sheets.saturating_add(1);
         if !agrees(rt, name)? {
-            differing = differing.saturating_add(1);
             println!(rt; "{name} differs")?;
+            differing.push(name)?;
         }
     }
-    println!(rt; "{sheets} sheets, {differing} differ")?;
+    let sheets = table.lines().count();
+    println!(rt; "{sheets} sheets, {} differ", differing.len())?;
     Ok(())
 }
 

@@ -1,8 +1,8 @@
 //! A state with the way to it.
+ghost use Rattle.std.specs.Cmp.{partial_equiv_from_equiv};
 ghost use Rattle.walk.specs.Sames.{same_state};
 ghost use Rattle.walk.specs.SameStates.{same_state_equivalence};
 
-use first_come::same::Same;
 use model::row::Row;
 
 /// A state that a walk has come to, and where it came from.
@@ -15,13 +15,17 @@ pub struct Walked {
     pub by: u8,
 }
 
-/// Walked states are the same where their states are: the way to them does not count.
-impl Same for Walked {
-    ghost same = { same_state };
+/// Walked states are equal where their states are: the way to them does not count. A derive would name no definition.
+impl PartialEq for Walked {
+    ghost eq = { same_state };
 
-    ghost equivalence = { same_state_equivalence };
+    ghost laws = { partial_equiv_from_equiv same_state_equivalence };
 
-    fn same_as(&self, other: &Walked) -> bool {
+    fn eq(&self, other: &Walked) -> bool {
         self.state == other.state
     }
+}
+
+impl Eq for Walked {
+    ghost laws = { same_state_equivalence };
 }

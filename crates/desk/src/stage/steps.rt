@@ -2,13 +2,15 @@
 ghost use Rattle.std.specs.Prelude.{◌≡◌};
 ghost use Rattle.sheet.specs.Reading.{told};
 ghost use Rattle.model.specs.Drafts.{ended};
-ghost use Rattle.desk.specs.Stages.{phase_of, record_so_far, stage_told, turn_told};
-ghost use Rattle.desk.specs.Steps.{variable_step, move_step, condition_step, effect_step, start_step, goal_step, seal_step, step};
+ghost use Rattle.desk.specs.Stages.{phase_of, record_so_far, stage_told, seal_told, turn_told};
+ghost use Rattle.desk.specs.Steps.{variable_step, move_step, part_step, end_step, seal_step, step};
 
-use super::{Stage, Turn};
-use model::in_hand::WritingEnds;
+use super::Stage;
+use model::in_hand::{End, Part, WritingEnds};
+use model::sealed::Model;
 use refusal::Refusal;
-use sheet::{Command, Fault};
+use sheet::Command;
+use std::ops::ControlFlow::{self, Break, Continue};
 
 impl Stage {
     fn name_variable(self, size: u8, name: [u8; 8]) -> Result<Stage, Refusal>
@@ -37,24 +39,13 @@ impl Stage {
         }
     }
 
-    fn condition(self, variable: usize, value: u8) -> Result<Stage, Refusal>
-        ensures { stage_told result ≡ condition_step (phase_of self) (record_so_far self) variable value }
+    /// Enters a value in one of the rows of the move begun last.
+    fn enter_part(self, part: Part, variable: u8, value: u8) -> Result<Stage, Refusal>
+        ensures { stage_told result ≡ part_step part (phase_of self) (record_so_far self) variable value }
     {
         match self {
             Stage::Moves(mut moves) => {
-                moves.condition(variable, value)?;
-                Ok(Stage::Moves(moves))
-            }
-            _ => Err(Refusal::OutOfTurn),
-        }
-    }
-
-    fn effect(self, variable: usize, value: u8) -> Result<Stage, Refusal>
-        ensures { stage_told result ≡ effect_step (phase_of self) (record_so_far self) variable value }
-    {
-        match self {
-            Stage::Moves(mut moves) => {
-                moves.effect(variable, value)?;
+                moves.enter_part(part, usize::from(variable), value)?;
                 Ok(Stage::Moves(moves))
             }
             _ => Err(Refusal::OutOfTurn),
@@ -72,58 +63,45 @@ impl Stage {
         }
     }
 
-    fn start(self, variable: usize, value: u8) -> Result<Stage, Refusal>
-        ensures { stage_told result ≡ start_step (record_so_far self) variable value }
+    /// Enters a value of the start or of the goal.
+    fn enter_end(self, end: End, variable: u8, value: u8) -> Result<Stage, Refusal>
+        ensures { stage_told result ≡ end_step end (record_so_far self) variable value }
     {
         let mut ends = self.into_ends();
-        ends.start(variable, value)?;
+        ends.enter_end(end, usize::from(variable), value)?;
         Ok(Stage::Ends(ends))
     }
 
-    fn goal(self, variable: usize, value: u8) -> Result<Stage, Refusal>
-        ensures { stage_told result ≡ goal_step (record_so_far self) variable value }
+    fn seal(self) -> Result<Model, Refusal>
+        ensures { seal_told result ≡ seal_step (record_so_far self) }
     {
-        let mut ends = self.into_ends();
-        ends.goal(variable, value)?;
-        Ok(Stage::Ends(ends))
+        self.into_ends()
+            .seal()
+            .map_err(|_| Refusal::StartIncomplete)
     }
 
-    fn seal(self) -> Turn
-        ensures { turn_told result ≡ seal_step (record_so_far self) }
-    {
-        match self.into_ends().seal() {
-            Ok(model) => Turn::Seals(model),
-            Err(_) => Turn::Refused(Refusal::StartIncomplete),
-        }
-    }
-
-    /// Carries out one command of the model part.
-    pub(crate) fn take(self, command: Command) -> Turn
+    /// Carries out one command of the model part: the model in hand goes on, or it is sealed.
+    pub(crate) fn take(self, command: Command) -> Result<ControlFlow<Model, Stage>, Refusal>
         ensures { turn_told result ≡ step (phase_of self) (record_so_far self) (told command.entry) }
     {
         match command {
-            Command::Variable { size, name } => went(self.name_variable(size, *name)),
-            Command::Move { name } => went(self.begin_move(*name)),
-            Command::Condition { variable, value } => went(self.condition(
-                variable as usize,
-                value,
-            )),
-            Command::Effect { variable, value } => went(self.effect(variable as usize, value)),
-            Command::Start { variable, value } => went(self.start(variable as usize, value)),
-            Command::Goal { variable, value } => went(self.goal(variable as usize, value)),
-            Command::Seal => self.seal(),
-            Command::Fault(Fault::Unknown) => Turn::Refused(Refusal::UnknownCommand),
-            Command::Fault(Fault::Cut) => Turn::Refused(Refusal::SheetEnds),
-            _ => Turn::Refused(Refusal::OutOfTurn),
+            Command::Variable { size, name } => self.name_variable(size, *name).map(Continue),
+            Command::Move { name } => self.begin_move(*name).map(Continue),
+            Command::Condition { variable, value } => self
+                .enter_part(Part::Conditions, variable, value)
+                .map(Continue),
+            Command::Effect { variable, value } => self
+                .enter_part(Part::Effects, variable, value)
+                .map(Continue),
+            Command::Start { variable, value } => self
+                .enter_end(End::Start, variable, value)
+                .map(Continue),
+            Command::Goal { variable, value } => self
+                .enter_end(End::Goal, variable, value)
+                .map(Continue),
+            Command::Seal => self.seal().map(Break),
+            Command::Fault(fault) => Err(fault.into()),
+            _ => Err(Refusal::OutOfTurn),
         }
-    }
-}
-
-fn went(stepped: Result<Stage, Refusal>) -> Turn
-    ensures { turn_told result ≡ stage_told stepped }
-{
-    match stepped {
-        Ok(stage) => Turn::Goes(stage),
-        Err(refusal) => Turn::Refused(refusal),
     }
 }

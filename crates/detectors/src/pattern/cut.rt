@@ -1,16 +1,15 @@
 //! Rows cut to the variables of a pattern: the entries of the first, second and third, open where there is no such variable.
 ghost use Rattle.std.specs.Prelude.{◌≡◌};
-ghost use Rattle.model.specs.Rows.{keeps, differ, same_entry};
 ghost use Rattle.model.specs.Moves.{or_else};
-ghost use Rattle.detectors.specs.Cuts.{same_cut, contained_cut, applicable_cut, progression_cut};
+ghost use Rattle.detectors.specs.Cuts.{contained_cut, applicable_cut, progression_cut};
 ghost use Rattle.detectors.specs.CutMarks.{digit_of, mark_of};
-ghost use Rattle.first_come.proofs.Sameness.{from_equality};
-ghost use Rattle.detectors.specs.CutSameness.{cut_self, cut_equal};
+ghost use Rattle.detectors.specs.CutMarking.{cut_marking};
 
-use first_come::same::Same;
+use first_come::mark::Mark;
+use model::entry::{entries_differ, entry_kept};
 
 /// A row, cut.
-#[derive(Clone, Copy)]
+#[derive(Clone, Copy, Default, PartialEq, Eq)]
 pub(crate) struct Cut {
     pub(crate) first: Option<u8>,
     pub(crate) second: Option<u8>,
@@ -24,68 +23,19 @@ pub(crate) struct CutMove {
     pub(crate) effects: Cut,
 }
 
-/// Whether both entries are open, or give the same value.
-fn entries_same(mine: Option<u8>, theirs: Option<u8>) -> bool
-    ensures { result ≡ same_entry mine theirs }
-{
-    match (mine, theirs) {
-        (Some(value), Some(found)) => value == found,
-        (None, None) => true,
-        _ => false,
-    }
-}
-
-/// Whether both entries are given, with different values.
-fn entries_differ(mine: Option<u8>, theirs: Option<u8>) -> bool
-    ensures { result ≡ differ mine theirs }
-{
-    match (mine, theirs) {
-        (Some(value), Some(found)) => value != found,
-        _ => false,
-    }
-}
-
-/// Whether the second entry is the first, if that is given.
-fn entry_kept(mine: Option<u8>, theirs: Option<u8>) -> bool
-    ensures { result ≡ keeps mine theirs }
-{
-    match (mine, theirs) {
-        (Some(value), Some(found)) => found == value,
-        (Some(_), None) => false,
-        (None, _) => true,
-    }
-}
-
-/// The first entry if it is given, else the second.
-fn entry_or(mine: Option<u8>, theirs: Option<u8>) -> Option<u8>
-    ensures { result ≡ or_else mine theirs }
-{
-    match mine {
-        Some(value) => Some(value),
-        None => theirs,
-    }
-}
-
 /// An entry as a digit: 0 where it is open, else one more than its value.
 fn digit(entry: Option<u8>) -> usize
     ensures { result ≡ digit_of entry }
 {
-    match entry {
-        Some(value) => value as usize + 1,
-        None => 0,
-    }
+    entry.map_or(0, |value| usize::from(value) + 1)
 }
 
-impl Same for Cut {
-    ghost same = { same_cut };
-
-    ghost equivalence = { from_equality same_cut cut_self cut_equal };
-
-    fn same_as(&self, other: &Cut) -> bool {
-        entries_same(self.first, other.first)
-            && entries_same(self.second, other.second)
-            && entries_same(self.third, other.third)
-    }
+/// The entry after a move: what it takes effect on, else what there is, else what it was on condition of.
+#[tactic(auto, using(crate::proofs::Entries::or_is_or_else))]
+fn next_entry(effect: Option<u8>, entry: Option<u8>, condition: Option<u8>) -> Option<u8>
+    ensures { result ≡ or_else effect (or_else entry condition) }
+{
+    effect.or(entry.or(condition))
 }
 
 impl Cut {
@@ -97,11 +47,15 @@ impl Cut {
             && entry_kept(self.second, other.second)
             && entry_kept(self.third, other.third)
     }
+}
 
-    /// Its place in a table of marks, which no other cut has; none where it gives a value above those of any model.
-    pub(crate) fn mark(&self) -> Option<usize>
-        ensures { result ≡ mark_of self.now }
-    {
+/// A cut has no mark where it gives a value above those of any model.
+impl Mark for Cut {
+    ghost mark = { mark_of };
+
+    ghost own = { cut_marking };
+
+    fn mark(&self) -> Option<usize> {
         let first = digit(self.first);
         let second = digit(self.second);
         let third = digit(self.third);
@@ -132,9 +86,9 @@ impl CutMove {
             effects,
         } = self;
         Cut {
-            first: entry_or(effects.first, entry_or(cut.first, conditions.first)),
-            second: entry_or(effects.second, entry_or(cut.second, conditions.second)),
-            third: entry_or(effects.third, entry_or(cut.third, conditions.third)),
+            first: next_entry(effects.first, cut.first, conditions.first),
+            second: next_entry(effects.second, cut.second, conditions.second),
+            third: next_entry(effects.third, cut.third, conditions.third),
         }
     }
 }

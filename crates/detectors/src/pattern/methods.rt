@@ -1,15 +1,16 @@
 //! A pattern is made, and asked the two questions of a detector.
-ghost use Rattle.std.specs.Prelude.{◌≡◌, IfOk, slice_index};
+ghost use Rattle.std.specs.Prelude.{◌≡◌, ◌≤◌, IfOk, slice_index};
 ghost use Rattle.model.specs.Drafts.{recorded};
 ghost use Rattle.detectors.specs.Operands.{pattern_answer};
 ghost use Rattle.detectors.specs.Patterns.{pattern_model, pattern_variables, chosen_or_refused, carried_or_back, MadeLawful};
-ghost use Rattle.detectors.specs.PatternMeaning.{pattern_dead, PatternDecides};
+ghost use Rattle.detectors.specs.PatternMeaning.{product_of_sizes, pattern_dead, PatternDecides};
 ghost use Rattle.detectors.specs.WorkedVerdicts.{WorkedPatternVerdicts};
 ghost use Rattle.std.proofs.lemmas.Bool.{and_parts};
 ghost use Rattle.model.proofs.SealedModel.{model_sealed};
 
 use super::Pattern;
-use crate::pattern::operands::choose;
+use crate::pattern::operands::choose_variables;
+use crate::pattern::variables::Variables;
 use crate::pattern::walking::is_cut_off;
 use crate::unmade::Unmade;
 use detector::Detector;
@@ -32,18 +33,30 @@ impl Pattern {
         ensures decides { PatternDecides }
         ensures worked { WorkedPatternVerdicts }
     {
-        let variables = match choose(&model, operands) {
-            Ok(variables) => variables,
-            Err(refusal) => return Ok(Err(Unmade { model, refusal })),
-        };
+        match choose_variables(&model, operands) {
+            Ok(variables) => Ok(Ok(Pattern::of(heap, model, variables)?)),
+            Err(refusal) => Ok(Err(Unmade { model, refusal })),
+        }
+    }
+
+    /// The pattern over variables whose sizes multiply to at most 512.
+    pub(crate) fn of(
+        heap: Global,
+        model: Model,
+        variables: Variables,
+    ) -> Result<Pattern, AllocError>
+        requires { product_of_sizes (recorded model).variables variables ≤ 512 }
+        ensures variables { IfOk result (λ p. pattern_variables p ≡ variables) }
+        ensures model { IfOk result (λ p. pattern_model p ≡ recorded model) }
+    {
         let moves = variables.cut_moves(heap, model.moves())?;
         let goal = variables.cut(model.goal());
-        Ok(Ok(Pattern {
+        Ok(Pattern {
             model,
             variables,
             moves,
             goal,
-        }))
+        })
     }
 }
 
@@ -61,13 +74,10 @@ impl Detector for Pattern {
     }
 
     fn verdict(&self, row: &Row) -> Verdict {
-        if !self.model.fits(row) || !self.variables.given_by(row) {
-            return Verdict::Silent;
-        }
-        if is_cut_off(&self.moves, &self.goal, self.variables.cut(row)) {
-            Verdict::Dead
-        } else {
-            Verdict::Silent
-        }
+        Verdict::dead_if(
+            self.model.fits(row)
+                && self.variables.given_by(row)
+                && is_cut_off(&self.moves, &self.goal, self.variables.cut(row)),
+        )
     }
 }

@@ -20,20 +20,14 @@ pub struct Variables {
 fn entry(row: &Row, variable: Option<usize>) -> Option<u8>
     ensures { result ≡ entry_of row.now variable }
 {
-    match variable {
-        Some(variable) => row.entry(variable),
-        None => None,
-    }
+    variable.and_then(|variable| row.entry(variable))
 }
 
 /// Whether the row gives the variable, if there is one.
 fn is_given(row: &Row, variable: Option<usize>) -> bool
     ensures { result ≡ given_at row.now variable }
 {
-    match variable {
-        Some(variable) => row.entry(variable).is_some(),
-        None => true,
-    }
+    variable.is_none_or(|variable| row.entry(variable).is_some())
 }
 
 impl Variables {
@@ -69,10 +63,6 @@ impl Variables {
     pub(crate) fn cut_moves(&self, heap: Global, moves: &[Move]) -> Result<Vec<CutMove>, AllocError>
         ensures { IfOk result (λ v. v.items ≡ map (cut_move self.now) moves.now) }
     {
-        let mut cuts = Vec::new(heap);
-        for step in moves {
-            cuts.push(self.cut_move(step))?;
-        }
-        Ok(cuts)
+        moves.iter().map(|step| self.cut_move(step)).collect(heap)
     }
 }

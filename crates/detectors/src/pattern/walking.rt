@@ -1,88 +1,76 @@
-//! A walk over cuts, in a first-come list with marks.
-ghost use Rattle.std.specs.Prelude.{◌≡◌, length};
-ghost use Rattle.first_come.specs.Arrivals.{arrived, keep, keep_all};
-ghost use Rattle.first_come.specs.Contents.{contents, lender};
-ghost use Rattle.first_come.specs.Marks.{Agree};
+//! A walk over cuts.
+ghost use Rattle.std.specs.Prelude.{◌≡◌};
+ghost use Rattle.first_come.specs.Arrivals.{arrived, keep_all};
 ghost use Rattle.detectors.specs.Cuts.{same_cut};
-ghost use Rattle.detectors.specs.CutMarks.{mark_of};
 ghost use Rattle.detectors.specs.CutWalk.{result_of, results, walk_from, some_contains, cut_off};
+ghost use Rattle.detectors.specs.WalkedList.{cuts};
 
 use crate::pattern::cut::{Cut, CutMove};
-use first_come::list::FirstCome;
+use first_come::marked::MarkedList;
 
-/// Lists the cut unless it is listed. The marks tell which cuts are.
-fn list_cut(list: &mut FirstCome<'_, Cut>, marks: &mut [bool], cut: Cut)
-    requires { Agree same_cut mark_of marks.old (arrived (contents list.old)) }
-    ensures kept { contents list.new ≡ keep same_cut (contents list.old) cut }
-    ensures lender { lender list.new ≡ lender list.old }
-    ensures agree { Agree same_cut mark_of marks.new (arrived (contents list.new)) }
-{
-    list.list_marked(marks, cut.mark(), cut);
-}
+/// A pattern has at most this many cuts that give all its variables.
+const PLACES: usize = 512;
 
-/// Lists the cut to which the move leads, if it is applicable.
-fn follow(list: &mut FirstCome<'_, Cut>, marks: &mut [bool], step: &CutMove, from: &Cut)
-    requires { Agree same_cut mark_of marks.old (arrived (contents list.old)) }
-    ensures kept { contents list.new ≡ keep_all same_cut (contents list.old) (result_of step.now from.now) }
-    ensures lender { lender list.new ≡ lender list.old }
-    ensures agree { Agree same_cut mark_of marks.new (arrived (contents list.new)) }
-{
-    if step.applicable(from) {
-        list_cut(list, marks, step.progression(from));
-    }
-}
-
-/// Lists the cuts to which the moves lead.
-fn follow_all(list: &mut FirstCome<'_, Cut>, marks: &mut [bool], moves: &[CutMove], from: &Cut)
-    requires { Agree same_cut mark_of marks.old (arrived (contents list.old)) }
-    ensures kept { contents list.new ≡ keep_all same_cut (contents list.old) (results moves.now from.now) }
-    ensures lender { lender list.new ≡ lender list.old }
-    ensures agree { Agree same_cut mark_of marks.new (arrived (contents list.new)) }
-{
-    for step in moves {
-        follow(list, marks, step, from);
-    }
-}
-
-/// Takes the listed cuts in order, and lists what each leads to.
-fn walk(list: &mut FirstCome<'_, Cut>, marks: &mut [bool], moves: &[CutMove])
-    requires { Agree same_cut mark_of marks.old (arrived (contents list.old)) }
-    ensures kept { contents list.new ≡ walk_from (length (contents list.old).places) 0 (contents list.old) moves.now }
-    ensures lender { lender list.new ≡ lender list.old }
-    ensures agree { Agree same_cut mark_of marks.new (arrived (contents list.new)) }
-{
-    let mut place = 0;
-    while let Some(from) = list.get(place) {
-        follow_all(list, marks, moves, &from);
-        place += 1;
-    }
-}
-
-/// Whether one of the cuts contains the goal.
-fn any_contains(cuts: &[Cut], goal: &Cut) -> bool
-    ensures { result ≡ some_contains goal.now cuts.now }
-{
-    for held in cuts {
-        if goal.contained_in(held) {
-            return true;
-        }
-    }
-    false
-}
+/// There are as many marks as ways to give or leave open three entries with 16 values each.
+const MARKS: usize = 17 * 17 * 17;
 
 /// Whether no cut reached from the first, itself counted, contains the goal.
 pub(crate) fn is_cut_off(moves: &[CutMove], goal: &Cut, first: Cut) -> bool
     ensures { result ≡ cut_off moves.now goal.now first }
 {
-    let open = Cut {
-        first: None,
-        second: None,
-        third: None,
+    let mut places = [Cut::default(); PLACES];
+    let mut walk = Walk {
+        cuts: MarkedList::new(&mut places),
     };
-    let mut places = [open; 512];
-    let mut list = FirstCome::new(&mut places);
-    let mut marks = [false; 4913];
-    list_cut(&mut list, &mut marks, first);
-    walk(&mut list, &mut marks, moves);
-    !any_contains(list.as_slice(), goal)
+    walk.cuts.list(first);
+    walk.go_on(moves);
+    !walk.contains(goal)
+}
+
+/// The cuts that a walk has come to, each listed once.
+#[derive(Drop)]
+struct Walk<'a> {
+    cuts: MarkedList<'a, Cut, MARKS>,
+}
+
+impl Walk<'_> {
+    /// Takes the listed cuts in order, and lists what each leads to.
+    fn go_on(&mut self, moves: &[CutMove])
+        ensures { cuts self.new ≡ walk_from 512 0 (cuts self.old) moves.now }
+    {
+        for place in 0..PLACES {
+            let Some(from) = self.cuts.get(place) else {
+                return;
+            };
+            self.follow_all(moves, &from);
+        }
+    }
+
+    /// Lists the cuts to which the moves lead.
+    fn follow_all(&mut self, moves: &[CutMove], from: &Cut)
+        ensures { cuts self.new ≡ keep_all same_cut (cuts self.old) (results moves.now from.now) }
+    {
+        for step in moves {
+            self.follow(step, from);
+        }
+    }
+
+    /// Lists the cut to which the move leads, if it is applicable.
+    fn follow(&mut self, step: &CutMove, from: &Cut)
+        ensures { cuts self.new ≡ keep_all same_cut (cuts self.old) (result_of step.now from.now) }
+    {
+        if step.applicable(from) {
+            self.cuts.list(step.progression(from));
+        }
+    }
+
+    /// Whether one of the cuts contains the goal.
+    fn contains(&self, goal: &Cut) -> bool
+        ensures { result ≡ some_contains goal.now (arrived (cuts self.now)) }
+    {
+        self.cuts
+            .as_slice()
+            .iter()
+            .any(|held| goal.contained_in(held))
+    }
 }

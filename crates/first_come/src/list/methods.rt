@@ -1,15 +1,14 @@
 //! A first-come list is made, asked and added to.
 ghost use Rattle.std.specs.Prelude.{◌≡◌, false};
-ghost use Rattle.std.specs.List.{slice_get};
-ghost use Rattle.first_come.specs.Arrivals.{Distinct, has, arrived, found_at, kept, has_room, put_unless, answer, keep, InOrderOfArrival};
+ghost use Rattle.std.specs.List.{position, slice_get};
+ghost use Rattle.first_come.specs.Arrivals.{Distinct, has, arrived, found_at, kept, next_place, put_unless, answer, keep, InOrderOfArrival};
 ghost use Rattle.first_come.specs.Contents.{contents, lender};
 ghost use Rattle.first_come.specs.Marks.{held_by_mark, keep_by_mark, with_mark, marks_after, ToldAsListed, KeptAsListed};
 
 use super::FirstCome;
 use crate::listed::Listed;
-use crate::same::Same;
 
-impl<'a, T: Same + Copy> FirstCome<'a, T> {
+impl<'a, T: Eq + Copy> FirstCome<'a, T> {
     /// An empty list over the lent places.
     pub fn new(places: &'a mut [T]) -> FirstCome<'a, T>
         ensures empty { contents result ≡ kept places.old 0 }
@@ -27,91 +26,82 @@ impl<'a, T: Same + Copy> FirstCome<'a, T> {
 
     /// Whether an item that is the same is listed.
     pub fn holds(&self, item: &T) -> bool
-        ensures { result ≡ has T.same (arrived (contents self.now)) item.now }
+        ensures { result ≡ has T.eq (arrived (contents self.now)) item.now }
     {
         self.place_of(item).is_some()
     }
 
     /// The place of the item that is the same, if one is listed.
+    #[tactic(auto, using(crate::proofs::Places::found_at_position))]
     pub fn place_of(&self, item: &T) -> Option<usize>
-        ensures { result ≡ found_at T.same (arrived (contents self.now)) item.now }
+        ensures { result ≡ found_at T.eq (arrived (contents self.now)) item.now }
     {
-        let places = &*self.places;
-        find(&places[0..self.len], item)
+        find(self.as_slice(), item)
     }
 
     /// The item at a place, if one is listed there.
     pub fn get(&self, place: usize) -> Option<T>
         ensures { result ≡ slice_get (arrived (contents self.now)) place }
     {
-        item_at(self.as_slice(), place)
+        self.as_slice().get(place).copied()
     }
 
     /// The items in order of arrival.
     pub fn as_slice(&self) -> &[T]
         ensures { result.now ≡ arrived (contents self.now) }
     {
-        let places = &*self.places;
-        &places[0..self.len]
+        &self.places[..self.len]
     }
 
     /// Lists the item, unless one that is the same is listed or no place is left.
     pub fn list(&mut self, item: T) -> Listed
-        ensures answered { result ≡ answer T.same (contents self.old) item }
-        ensures kept { contents self.new ≡ keep T.same (contents self.old) item }
+        ensures answered { result ≡ answer T.eq (contents self.old) item }
+        ensures kept { contents self.new ≡ keep T.eq (contents self.old) item }
         ensures lender { lender self.new ≡ lender self.old }
-        ensures once { Distinct T.same (arrived (contents self.old)) → Distinct T.same (arrived (contents self.new)) }
-        ensures in_order { InOrderOfArrival T.same (contents self.old) item (contents self.new) }
+        ensures once { Distinct T.eq (arrived (contents self.old)) → Distinct T.eq (arrived (contents self.new)) }
+        ensures in_order { InOrderOfArrival T.eq (contents self.old) item (contents self.new) }
     {
         if let Some(place) = self.place_of(&item) {
             return Listed::Already(place);
         }
-        let place = self.len;
-        if self.put(item) {
-            Listed::Added(place)
-        } else {
-            Listed::Full
-        }
+        self.put(item).map_or(Listed::Full, Listed::Added)
     }
 
-    /// Puts the item in the next place, if one is left.
-    fn put(&mut self, item: T) -> bool
-        ensures answered { result ≡ has_room (contents self.old) }
+    /// Puts the item in the next place, and tells which, if one is left.
+    fn put(&mut self, item: T) -> Option<usize>
+        ensures answered { result ≡ next_place (contents self.old) }
         ensures kept { contents self.new ≡ put_unless false (contents self.old) item }
         ensures lender { lender self.new ≡ lender self.old }
     {
-        let len = self.len;
-        if len >= self.places.len() {
-            return false;
+        let place = self.len;
+        if place == self.places.len() {
+            return None;
         }
-        self.places[len] = item;
-        self.len = len + 1;
-        true
+        self.places[place] = item;
+        self.len = place + 1;
+        Some(place)
     }
 
     /// Whether an item that is the same is listed: by its mark in a table, or by looking where the table has no such mark.
     pub fn holds_marked(&self, marks: &[bool], mark: Option<usize>, item: &T) -> bool
-        ensures answered { result ≡ held_by_mark T.same (contents self.now) marks.now mark item.now }
-        ensures as_listed { ToldAsListed T.same (contents self.now) marks.now mark item.now result }
+        ensures answered { result ≡ held_by_mark T.eq (contents self.now) marks.now mark item.now }
+        ensures as_listed { ToldAsListed T.eq (contents self.now) marks.now mark item.now result }
     {
-        match mark {
-            Some(mark) if mark < marks.len() => marks[mark],
-            _ => self.holds(item),
+        match mark.and_then(|mark| marks.get(mark)) {
+            Some(set) => *set,
+            None => self.holds(item),
         }
     }
 
     /// Lists the item as `list` does, but asks its mark in a table whether one that is the same is listed. An item that is
     /// added is marked. Whoever keeps the table answers for its marks being true.
     pub fn list_marked(&mut self, marks: &mut [bool], mark: Option<usize>, item: T)
-        ensures kept { contents self.new ≡ keep_by_mark T.same (contents self.old) marks.old mark item }
-        ensures marked { marks.new ≡ marks_after T.same (contents self.old) marks.old mark item }
+        ensures kept { contents self.new ≡ keep_by_mark T.eq (contents self.old) marks.old mark item }
+        ensures marked { marks.new ≡ marks_after T.eq (contents self.old) marks.old mark item }
         ensures lender { lender self.new ≡ lender self.old }
-        ensures as_listed { KeptAsListed T.same (contents self.old) marks.old mark item (contents self.new) marks.new }
+        ensures as_listed { KeptAsListed T.eq (contents self.old) marks.old mark item (contents self.new) marks.new }
     {
-        if self.holds_marked(marks, mark, &item) {
-            return;
-        }
-        if self.put(item) {
+        if !self.holds_marked(marks, mark, &item) && self.put(item).is_some() {
             set_mark(marks, mark);
         }
     }
@@ -121,32 +111,16 @@ impl<'a, T: Same + Copy> FirstCome<'a, T> {
 fn set_mark(marks: &mut [bool], mark: Option<usize>)
     ensures { marks.new ≡ with_mark marks.old mark }
 {
-    if let Some(mark) = mark {
-        if mark < marks.len() {
-            marks[mark] = true;
-        }
+    if let Some(mark) = mark
+        && mark < marks.len()
+    {
+        marks[mark] = true;
     }
 }
 
 /// The first place of an item that is the same.
-fn find<T: Same>(items: &[T], item: &T) -> Option<usize>
-    ensures { result ≡ found_at T.same items.now item.now }
+fn find<T: Eq>(items: &[T], item: &T) -> Option<usize>
+    ensures { result ≡ position (λ listed. T.eq listed item.now) items.now }
 {
-    for (place, listed) in items.iter().enumerate() {
-        if listed.same_as(item) {
-            return Some(place);
-        }
-    }
-    None
-}
-
-/// The item at a place, if there is one.
-fn item_at<T: Copy>(items: &[T], place: usize) -> Option<T>
-    ensures { result ≡ slice_get items.now place }
-{
-    if place < items.len() {
-        Some(items[place])
-    } else {
-        None
-    }
+    items.iter().position(|listed| listed == item)
 }

@@ -4,7 +4,6 @@ ghost use Rattle.model.specs.Drafts.{ended, recorded, sealed_or_back};
 ghost use Rattle.model.specs.Records.{Sealed};
 ghost use Rattle.model.specs.Writing.{end_answer, enter_end, start_answer, enter_start, goal_answer, enter_goal, seal_answer, sealing};
 
-use super::steps::enter;
 use super::{End, WritingEnds};
 use crate::sealed::Model;
 use refusal::Refusal;
@@ -26,13 +25,14 @@ impl WritingEnds {
         self.enter_end(End::Goal, variable, value)
     }
 
-    fn enter_end(&mut self, end: End, variable: usize, value: u8) -> Result<(), Refusal>
+    /// Enters a value of one of the two ends.
+    pub fn enter_end(&mut self, end: End, variable: usize, value: u8) -> Result<(), Refusal>
         ensures answer { result ≡ end_answer end (ended self.old) variable value }
         ensures after { ended self.new ≡ enter_end end (ended self.old) variable value }
     {
         match end {
-            End::Start => enter(self.variables.as_slice(), &mut self.start, variable, value),
-            End::Goal => enter(self.variables.as_slice(), &mut self.goal, variable, value),
+            End::Start => self.domain.enter(&mut self.start, variable, value),
+            End::Goal => self.domain.enter(&mut self.goal, variable, value),
         }
     }
 
@@ -40,12 +40,11 @@ impl WritingEnds {
     pub fn may_be_sealed(&self) -> Result<(), Refusal>
         ensures { result ≡ seal_answer (ended self.now) }
     {
-        for variable in 0..self.variables.len() {
-            if self.start.entry(variable).is_none() {
-                return Err(Refusal::StartIncomplete);
-            }
+        if self.domain.given_by(&self.start) {
+            Ok(())
+        } else {
+            Err(Refusal::StartIncomplete)
         }
-        Ok(())
     }
 
     /// Seals the model, or gives it back as it was where it may not be sealed.
@@ -56,8 +55,7 @@ impl WritingEnds {
     {
         match self.may_be_sealed() {
             Ok(()) => Ok(Model {
-                variables: self.variables,
-                moves: self.moves,
+                domain: self.domain,
                 start: self.start,
                 goal: self.goal,
             }),

@@ -3,7 +3,6 @@ ghost use Rattle.std.specs.Prelude.{◌≡◌};
 ghost use Rattle.model.specs.Drafts.{written, ended};
 ghost use Rattle.model.specs.Writing.{move_answer, begin_move, part_answer, enter_part, condition_answer, enter_condition, effect_answer, enter_effect};
 
-use super::steps::{ends_open, enter_in_move};
 use super::{Part, WritingEnds, WritingMoves};
 use refusal::Refusal;
 
@@ -13,7 +12,7 @@ impl WritingMoves {
         ensures answer { result ≡ move_answer (written self.old) }
         ensures after { written self.new ≡ begin_move (written self.old) name }
     {
-        self.moves.begin(name)
+        self.domain.begin_move(name)
     }
 
     /// Enters a condition in the move begun last.
@@ -32,20 +31,18 @@ impl WritingMoves {
         self.enter_part(Part::Effects, variable, value)
     }
 
-    fn enter_part(&mut self, part: Part, variable: usize, value: u8) -> Result<(), Refusal>
+    /// Enters a value in one of the rows of the move begun last.
+    pub fn enter_part(&mut self, part: Part, variable: usize, value: u8) -> Result<(), Refusal>
         ensures answer { result ≡ part_answer part (written self.old) variable value }
         ensures after { written self.new ≡ enter_part part (written self.old) variable value }
     {
-        match self.moves.last() {
-            Some(last) => enter_in_move(self.variables.as_slice(), last, part, variable, value),
-            None => unreachable(),
-        }
+        self.domain.enter_part(part, variable, value)
     }
 
     /// The moves are written: the start and the goal come next.
     pub fn into_ends(self) -> WritingEnds
         ensures { ended result ≡ written self }
     {
-        ends_open(self.variables, self.moves)
+        self.domain.with_open_ends()
     }
 }

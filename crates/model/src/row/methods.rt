@@ -1,10 +1,11 @@
 //! Rows are made, read, changed and compared.
-ghost use Rattle.std.specs.Prelude.{◌≡◌, Some, Decides};
-ghost use Rattle.model.specs.Rows.{at, filled_row, open_row, with_entry, keeps, differ, same_entry, contained, disagree, same_row};
+ghost use Rattle.std.specs.Prelude.{◌≡◌, Some, is_some, Decides};
+ghost use Rattle.model.specs.Rows.{at, filled_row, open_row, with_entry, same_entry, contained, disagree, same_row};
 ghost use Rattle.model.specs.RowLaws.{ContainmentIsReflexive, ContainmentIsTransitive, ContainmentIsAntisymmetric};
 ghost use Rattle.model.specs.SameRows.{same_row_laws};
 
 use super::Row;
+use crate::entry::{entries_differ, entry_kept};
 
 impl Row {
     /// The row that gives nothing.
@@ -27,11 +28,14 @@ impl Row {
     pub fn entry(&self, variable: usize) -> Option<u8>
         ensures { result ≡ at self.now variable }
     {
-        if variable < 32 {
-            self.entries[variable]
-        } else {
-            None
-        }
+        self.entries.get(variable).copied().flatten()
+    }
+
+    /// Whether it gives the variable.
+    pub(crate) fn gives(&self, variable: usize) -> bool
+        ensures { result ≡ is_some (at self.now variable) }
+    {
+        self.entry(variable).is_some()
     }
 
     /// Gives the variable the value. From the 33rd variable on nothing changes.
@@ -57,27 +61,24 @@ impl Row {
         ensures transitive { ContainmentIsTransitive }
         ensures antisymmetric { ContainmentIsAntisymmetric }
     {
-        for variable in 0..32 {
-            if !entry_kept(self.entry(variable), other.entry(variable)) {
-                return false;
-            }
-        }
-        true
+        self.entries
+            .iter()
+            .zip(&other.entries)
+            .all(|(mine, theirs)| entry_kept(*mine, *theirs))
     }
 
     /// Whether both rows give some variable, with different values.
     pub fn disagrees(&self, other: &Row) -> bool
         ensures { result ≡ disagree self.now other.now }
     {
-        for variable in 0..32 {
-            if entries_differ(self.entry(variable), other.entry(variable)) {
-                return true;
-            }
-        }
-        false
+        self.entries
+            .iter()
+            .zip(&other.entries)
+            .any(|(mine, theirs)| entries_differ(*mine, *theirs))
     }
 }
 
+// By hand, for a derived `==` would promise its answer by no definition.
 impl PartialEq for Row {
     ghost eq = { same_row };
 
@@ -87,43 +88,14 @@ impl PartialEq for Row {
         ensures answer { result ≡ same_row self.now other.now }
         ensures exact { Decides result (self.now ≡ other.now) }
     {
-        for variable in 0..32 {
-            if !entries_same(self.entry(variable), other.entry(variable)) {
-                return false;
-            }
-        }
-        true
+        same_entries(self, other)
     }
 }
 
-/// Whether the second entry is the first, if that is given.
-fn entry_kept(mine: Option<u8>, theirs: Option<u8>) -> bool
-    ensures { result ≡ keeps mine theirs }
+/// Whether both rows have the same entries.
+#[tactic(auto, using(crate::proofs::Containment::told_same))]
+fn same_entries(mine: &Row, theirs: &Row) -> bool
+    ensures { result ≡ same_row mine.now theirs.now }
 {
-    match (mine, theirs) {
-        (Some(value), Some(found)) => found == value,
-        (Some(_), None) => false,
-        (None, _) => true,
-    }
-}
-
-/// Whether both entries are given, with different values.
-fn entries_differ(mine: Option<u8>, theirs: Option<u8>) -> bool
-    ensures { result ≡ differ mine theirs }
-{
-    match (mine, theirs) {
-        (Some(value), Some(found)) => value != found,
-        _ => false,
-    }
-}
-
-/// Whether both entries are open, or give the same value.
-fn entries_same(mine: Option<u8>, theirs: Option<u8>) -> bool
-    ensures { result ≡ same_entry mine theirs }
-{
-    match (mine, theirs) {
-        (Some(value), Some(found)) => value == found,
-        (None, None) => true,
-        _ => false,
-    }
+    mine.entries == theirs.entries
 }

@@ -1,7 +1,7 @@
 //! What a sealed model answers of itself.
 ghost use Rattle.std.specs.Prelude.{◌≡◌};
 ghost use Rattle.model.specs.Drafts.{recorded};
-ghost use Rattle.model.specs.Limits.{size_at, size_of, entry_fits};
+ghost use Rattle.model.specs.Limits.{size_at, size_of};
 ghost use Rattle.model.specs.Records.{row_of_model};
 
 use super::Model;
@@ -14,38 +14,28 @@ impl Model {
     pub fn variables(&self) -> &[Variable]
         ensures { result.now ≡ (recorded self.now).variables }
     {
-        self.variables.as_slice()
+        self.domain.variables.as_slice()
     }
 
     /// The size of a variable, or none where the model has no such variable.
     pub fn size(&self, variable: usize) -> Option<u8>
         ensures { result ≡ size_of (recorded self.now).variables variable }
     {
-        let variables = self.variables.as_slice();
-        if variable < variables.len() {
-            Some(variables[variable].size)
-        } else {
-            None
-        }
+        self.domain.size(variable)
     }
 
     /// How many values a variable has: its size, or 0 where the model has no such variable.
     pub fn value_count(&self, variable: usize) -> u8
         ensures { result ≡ size_at (recorded self.now).variables variable }
     {
-        let variables = self.variables.as_slice();
-        if variable < variables.len() {
-            variables[variable].size
-        } else {
-            0
-        }
+        self.domain.value_count(variable)
     }
 
     /// Its moves, by number.
     pub fn moves(&self) -> &[Move]
         ensures { result.now ≡ (recorded self.now).moves }
     {
-        self.moves.as_slice()
+        self.domain.moves.as_slice()
     }
 
     /// The state from which it starts.
@@ -66,21 +56,6 @@ impl Model {
     pub fn fits(&self, row: &Row) -> bool
         ensures { result ≡ row_of_model (recorded self.now) row.now }
     {
-        for variable in 0..32 {
-            if !entry_fits(self.value_count(variable), row.entry(variable)) {
-                return false;
-            }
-        }
-        true
-    }
-}
-
-/// Whether the entry is open or a value below the size.
-fn entry_fits(size: u8, entry: Option<u8>) -> bool
-    ensures { result ≡ entry_fits size entry }
-{
-    match entry {
-        Some(value) => value < size,
-        None => true,
+        self.domain.fits(row)
     }
 }

@@ -42,34 +42,22 @@ impl Detector for OneRow {
     }
 
     fn verdict(&self, row: &Row) -> Verdict {
-        if self.model.fits(row) && self.row.contained_in(row) {
-            Verdict::Dead
-        } else {
-            Verdict::Silent
-        }
+        Verdict::dead_if(self.model.fits(row) && self.row.contained_in(row))
     }
 }
 
-/// Whether the row is one of the model's, disagrees with the goal, and is kept by every applicable move.
+/// Whether the row disagrees with the goal, and every move keeps it.
 fn stands_still(model: &Model, row: &Row) -> bool
     ensures { result ≡ stands_still (recorded model.now) row.now }
 {
-    if !row.disagrees(model.goal()) {
-        return false;
-    }
-    all_stay(model.moves(), row)
+    row.disagrees(model.goal()) && all_stay(model.moves(), row)
 }
 
 /// Whether every move that is applicable to the row keeps it.
 fn all_stay(moves: &[Move], row: &Row) -> bool
     ensures { result ≡ all_stay moves.now row.now }
 {
-    for m in moves {
-        if !keeps(m, row) {
-            return false;
-        }
-    }
-    true
+    moves.iter().all(|m| keeps(m, row))
 }
 
 /// Whether the move is not applicable to the row, or leads to a row that contains it.

@@ -3,7 +3,8 @@ use Rattle.model.specs.Drafts.{recorded}
 use Rattle.sheet.specs.Commands.{item_of}
 use Rattle.sheet.proofs.CommandList.{commands_none, commands_some}
 use Rattle.desk.specs.declared.opening.Stop.{Stop}
-use Rattle.desk.specs.Choosing.{Detector, detector_part, chosen_at}
+use Rattle.detectors.specs.Choosing.{Detector}
+use Rattle.desk.specs.Choosing.{detector_part, chosen_at}
 use Rattle.desk.proofs.choosing.read_detector.Goals as goal
 
 abbrev refused : Stop → Result (Detector × ℕ) Stop
@@ -12,7 +13,7 @@ refused stop = Err stop
 pub returns-in_default : goal.returns-in_default
 returns-in_default c =
     let sheet = c.args.sheet.now in
-    ap refused c.stop_at.ensures
+    ap refused c.at.ensures
     ∙ sym (ap (detector_part (length sheet) (recorded c.args.model.now).variables) (commands_none sheet c.args.place c.in_default.ensures.answer))
 
 pub returns-in-Ok : goal.returns-in-Ok
@@ -26,6 +27,6 @@ pub returns-in-Err : goal.returns-in-Err
 returns-in-Err c =
     let sheet = c.args.sheet.now in
     let item = item_of c.in-Some.found in
-    ap refused c.stop_at-in-Err.ensures
+    ap refused c.at-in-Err.ensures
     ∙ ap (chosen_at (length sheet) item) c.in-Err.ensures
     ∙ sym (ap (detector_part (length sheet) (recorded c.args.model.now).variables) (commands_some sheet c.args.place item c.in-Some.ensures.answer))

@@ -5,34 +5,34 @@ use Rattle.desk.specs.ModelPart.{stopped}
 use Rattle.desk.proofs.ModelRun.{run_ends, run_refuses, run_seals, run_goes, run_moves_on}
 use Rattle.desk.proofs.model_part.read_model.Goals as goal
 
-pub returns-in_default : goal.returns-in_default
-returns-in_default c =
+pub returns : goal.returns
+returns c =
     let stage = c.loop-found.stage in
-    ap stopped c.stop_at.ensures
+    ap stopped c.at-2.ensures
     ∙ sym (run_ends c.args.sheet.now c.loop-found.place (phase_of stage) (record_so_far stage) c.in_default.ensures.answer)
     ∙ c.loop-found.invariant
 
-pub returns-in-Seals : goal.returns-in-Seals
-returns-in-Seals c =
+pub returns-in-Ok-Break : goal.returns-in-Ok-Break
+returns-in-Ok-Break c =
     let stage = c.loop-found.stage in
-    sym (run_seals c.args.sheet.now c.loop-found.place (phase_of stage) (record_so_far stage) (item_of c.in-Some.found) c.in-Some.ensures.answer _ c.in-Seals.ensures)
+    sym (run_seals c.args.sheet.now c.loop-found.place (phase_of stage) (record_so_far stage) (item_of c.in-Some.found) c.in-Some.ensures.answer _ (rw c.in-Ok-Break.field-0-is at c.in-Ok-Break.ensures))
     ∙ c.loop-found.invariant
 
-pub returns-in-Refused : goal.returns-in-Refused
-returns-in-Refused c =
+pub returns-in-Err : goal.returns-in-Err
+returns-in-Err c =
     let stage = c.loop-found.stage in
-    ap stopped c.stop_at-in-Refused.ensures
-    ∙ sym (run_refuses c.args.sheet.now c.loop-found.place (phase_of stage) (record_so_far stage) (item_of c.in-Some.found) c.in-Some.ensures.answer _ c.in-Refused.ensures)
+    ap stopped c.at.ensures
+    ∙ sym (run_refuses c.args.sheet.now c.loop-found.place (phase_of stage) (record_so_far stage) (item_of c.in-Some.found) c.in-Some.ensures.answer _ c.in-Err.ensures)
     ∙ c.loop-found.invariant
 
 pub loop-found-preserved : goal.loop-found-preserved
 loop-found-preserved c =
     let stage = c.loop-found.stage in
-    sym (run_goes c.args.sheet.now c.loop-found.place (phase_of stage) (record_so_far stage) (item_of c.in-Some.found) c.in-Some.ensures.answer _ _ c.in-Goes.ensures)
+    sym (run_goes c.args.sheet.now c.loop-found.place (phase_of stage) (record_so_far stage) (item_of c.in-Some.found) c.in-Some.ensures.answer _ _ (rw c.in-Ok-Continue.field-0-is at c.in-Ok-Continue.ensures))
     ∙ c.loop-found.invariant
 
 pub loop-found-smaller : goal.loop-found-smaller
 loop-found-smaller c =
     let stage = c.loop-found.stage in
-    let on = run_moves_on c.args.sheet.now c.loop-found.place (phase_of stage) (record_so_far stage) (item_of c.in-Some.found) c.in-Some.ensures.answer _ _ c.in-Goes.ensures in
+    let on = run_moves_on c.args.sheet.now c.loop-found.place (phase_of stage) (record_so_far stage) (item_of c.in-Some.found) c.in-Some.ensures.answer _ _ (rw c.in-Ok-Continue.field-0-is at c.in-Ok-Continue.ensures) in
     omega arith

@@ -1,9 +1,15 @@
-use Rattle.std.proofs.Common.{arith, rules}
-use Rattle.model.proofs.BelowFacts.{any_below_holds, any_below_fails}
+use Rattle.std.proofs.Common.{◌≡◌, ◌∙◌, None, rules}
+use Rattle.std.specs.List.{list_any, zip}
+use borrow.Author.Tests.{tests}
+use Rattle.std.proofs.lemmas.Iterator.{YieldsList-from_zip, YieldsList-from_slice}
+use Rattle.std.proofs.lemmas.Iterator.Search.{any_from_yields_List}
+use Rattle.model.specs.Rows.{differ}
+use Rattle.model.proofs.Chains.{any_below_pairs}
 use Rattle.model.proofs.row.Row.disagrees.Goals as goal
 
-pub returns-then-entries_differ : goal.returns-then-entries_differ
-returns-then-entries_differ c = any_below_holds _ 32 c.loop-variable.variable (omega arith) (search rules)
-
 pub returns : goal.returns
-returns c = any_below_fails _ 32 (λ k l. c.loop-variable.invariant k (omega arith))
+returns c =
+    let r = c.args.self.now in
+    let t = c.args.other.now in
+    let told : c.any.result ≡ list_any (λ p. differ p.0 p.1) (zip r.entries t.entries) = any_from_yields_List (λ p. differ p.0 p.1) c.any.new.self _ c.any.result c.any.ensures.ran (YieldsList-from_zip (YieldsList-from_slice r.entries cc) (YieldsList-from_slice t.entries cc)) (λ x b q k. search (rules, tests)) in
+    told ∙ any_below_pairs differ None r.entries t.entries 32 r.full t.full

@@ -1,8 +1,0 @@
-use Rattle.detectors.proofs.FactsOfRows.{listed_one, listed_all}
-use Rattle.detectors.proofs.relaxed.reaching.list_values.Goals as goal
-
-pub loop-value-preserved : goal.loop-value-preserved
-loop-value-preserved c = (c.list.ensures.marked, listed_one _ _ _ _ _ c.loop-value.invariant.1 c.loop-value-test.true _ c.list.ensures.kept)
-
-pub returns : goal.returns
-returns c = record { kept = listed_all _ _ _ _ _ c.loop-value.invariant.1 c.loop-value-test.false; marked = c.loop-value.invariant.0 }

@@ -1,0 +1,24 @@
+//! An entry of a row: a value, or open.
+ghost use Rattle.std.specs.Prelude.{◌≡◌};
+ghost use Rattle.model.specs.Rows.{keeps, differ};
+
+/// Whether the second entry is the first, if that is given.
+pub fn entry_kept(mine: Option<u8>, theirs: Option<u8>) -> bool
+    ensures { result ≡ keeps mine theirs }
+{
+    match (mine, theirs) {
+        (Some(value), Some(found)) => found == value,
+        (Some(_), None) => false,
+        (None, _) => true,
+    }
+}
+
+/// Whether both entries are given, with different values.
+pub fn entries_differ(mine: Option<u8>, theirs: Option<u8>) -> bool
+    ensures { result ≡ differ mine theirs }
+{
+    match (mine, theirs) {
+        (Some(value), Some(found)) => value != found,
+        _ => false,
+    }
+}
