@@ -22,10 +22,10 @@ module _ (p : Phase) (d : ModelRecord) where
   is_command said t accepted is = readable said.0 said.1 (λ r e. accepted r (is ∙ e))
 
   sealed_command : (said : Told) (e : ModelRecord) → seals e ≡ step p d said → is_fault said ≡ false
-  sealed_command said e = is_command said (seals e) (λ r never. let z : ◌≡◌ {A = ℕ} 0 1 = cc in omega arith)
+  sealed_command said e = is_command said (seals e) (λ r never. cc)
 
   going_command : (said : Told) (q : Phase) (e : ModelRecord) → goes q e ≡ step p d said → is_fault said ≡ false
-  going_command said q e = is_command said (goes q e) (λ r never. let z : ◌≡◌ {A = ℕ} 0 1 = cc in omega arith)
+  going_command said q e = is_command said (goes q e) (λ r never. cc)
 
 -- the commands of a sheet from a place on, where the model so far is d
 module _ (sheet : List ℕ) (place : ℕ) (p : Phase) (d : ModelRecord) where

@@ -1,70 +1,55 @@
 -- The commands of a sheet that opens stand in order.
-use Rattle.std.proofs.Common.{◌≡◌, ℕ, Bool, true, false, cond, eqb, ltb, List, [], ◌∷◌, length, Ok, Err, Result, sym, refl, ap, subst, arith, eqb-true}
+use Rattle.std.proofs.Common.{◌≡◌, ℕ, eqb, ltb, List, [], ◌∷◌, length, get_or, Ok, Err, Result, sym, refl, subst, eqb-true}
+use Rattle.std.proofs.lemmas.Bool.{cond_both}
 use Rattle.refusal.specs.declared.Refusal.{Refusal}
 use Rattle.sheet.specs.Commands.{Item, commands}
 use Rattle.model.specs.declared.variable.Variable.{Variable}
 use Rattle.model.specs.Records.{ModelRecord, blank}
-use Rattle.desk.specs.declared.opening.Stop.{Stop}
 use Rattle.desk.specs.Steps.{naming}
 use Rattle.desk.specs.ModelPart.{ModelEnd, stopped, sealed, model_part}
-use Rattle.detectors.specs.Choosing.{Detector, operands_fit, kind_answer}
+use Rattle.detectors.specs.Choosing.{Detector, operands_fit}
 use Rattle.desk.specs.Choosing.{choice_answer, chosen_at, detector_part}
-use Rattle.desk.specs.Openings.{Opened, unsealed, ended, orders, behind_model, opened_by, opening}
+use Rattle.desk.specs.Openings.{Opened, behind_model, opened_by, opening}
 use Rattle.desk.specs.InOrder.{InOrder, Chooses, InOrderWithDetector, StandsInOrder}
-use Rattle.desk.proofs.StandInOrder.{model_in_order}
-use Rattle.desk.proofs.WentOn.{split}
+use Rattle.desk.proofs.StandInOrder.{StandsBy, stand, in_order}
 
 -- a detector that was chosen
-chosen_never_refused : {G : Type 0} (detector : Detector) (r : Refusal) → Ok detector ≡ Err r → G
-chosen_never_refused detector r h = let z : ◌≡◌ {A = ℕ} 0 1 = cc in absurd (omega arith)
+abbrev Chosen : Item → Result Detector Refusal → Type 0
+Chosen i (Ok detector) = Chooses i detector
+Chosen i (Err r) = Unit {0}
 
-kind_chosen : (vs : List Variable) (kind first second third : ℕ) (detector : Detector) → Ok detector ≡ kind_answer vs kind first second third → detector ≡ (kind, first ∷ second ∷ third ∷ [])
-kind_chosen vs kind first second third detector h =
-    split {X = Result Detector Refusal} (ltb 2 kind) _ _ _ h (λ _ w. chosen_never_refused detector _ w) (λ _ h.
-    split {X = Result Detector Refusal} (operands_fit vs kind first (second ∷ third ∷ [])) _ _ _ h (λ _ w. cc) (λ _ w. chosen_never_refused detector _ w))
-
-chooses : (vs : List Variable) (i : Item) (detector : Detector) → Ok detector ≡ choice_answer vs i.said → Chooses i detector
-chooses vs i detector h =
-    split {X = Result Detector Refusal} (eqb i.said.0 2) _ _ _ h (λ _ w. chosen_never_refused detector _ w) (λ _ h.
-    split {X = Result Detector Refusal} (eqb i.said.0 1) _ _ _ h (λ _ w. chosen_never_refused detector _ w) (λ _ h.
-    split {X = Result Detector Refusal} (eqb i.said.0 0x44) _ _ _ h
-    (λ is w. record { by_a_detector_command = eqb-true _ _ is; kind_and_operands = kind_chosen vs _ _ _ _ detector w })
-    (λ _ w. chosen_never_refused detector _ w)))
-
-detector_in : Detector → Result (Detector × ℕ) Stop → Detector
-detector_in other (Ok c) = c.0
-detector_in other (Err stop) = other
-
-chosen_by : (end : ℕ) (i : Item) (c : Result Detector Refusal) (detector : Detector) (next : ℕ) → Ok (detector, next) ≡ chosen_at end i c → Ok detector ≡ c
-unfolding detector_in
-chosen_by end i (Ok other) detector next h = ap (λ (d : Detector). Ok d) (ap (detector_in detector) h)
-chosen_by end i (Err r) detector next h = let z : ◌≡◌ {A = ℕ} 0 1 = cc in absurd (omega arith)
+chooses : (vs : List Variable) (i : Item) → Chosen i (choice_answer vs i.said)
+chooses vs i =
+    let kind = get_or i.said.1 0 0 in
+    let first = get_or i.said.1 1 0 in
+    let others = get_or i.said.1 2 0 ∷ get_or i.said.1 3 0 ∷ [] in
+    cond_both (eqb i.said.0 2) _ _ (Chosen i) (λ _. tt) (λ _.
+    cond_both (eqb i.said.0 1) _ _ (Chosen i) (λ _. tt) (λ _.
+    cond_both (eqb i.said.0 0x44) _ _ (Chosen i)
+    (λ is. cond_both (ltb 2 kind) _ _ (Chosen i) (λ _. tt) (λ _.
+    cond_both (operands_fit vs kind first others) (Ok (kind, first ∷ others)) _ (Chosen i) (λ _. record { by_a_detector_command = eqb-true _ _ is; kind_and_operands = refl }) (λ _. tt)))
+    (λ _. tt)))
 
 -- behind a model d, whose commands stand before `rest`
 module _ (end : ℕ) (items : List Item) (d : ModelRecord) where
-  with_detector : (rest : List Item) → InOrder d items rest → (detector : Detector) (next : ℕ) → Ok (detector, next) ≡ detector_part end d.variables rest → InOrderWithDetector d detector items
-  with_detector [] o detector next h = let z : ◌≡◌ {A = ℕ} 0 1 = cc in absurd (omega arith)
-  with_detector (i ∷ is) o detector next h = record { choice = i; rest = is; model_first = o; then_the_detector = chooses d.variables i detector (chosen_by end i _ detector next h) }
+  behind_choice : (i : Item) (is : List Item) → InOrder d items (i ∷ is) → (c : Result Detector Refusal) → Chosen i c → StandsInOrder items (behind_model end d (chosen_at end i c))
+  behind_choice i is o (Err r) chosen = (i ∷ is, o)
+  behind_choice i is o (Ok detector) chosen =
+      let both : InOrderWithDetector d detector items = record { choice = i; rest = is; model_first = o; then_the_detector = chosen } in
+      cond_both (eqb i.next end) _ _ (StandsInOrder items) (λ _. both) (λ _. both)
 
-  either_end : (q : Bool) (detector : Detector) (next : ℕ) → InOrderWithDetector d detector items → StandsInOrder items (cond q (ended d detector) (orders d detector next))
-  either_end true detector next o = o
-  either_end false detector next o = o
+  stands_behind : (rest : List Item) → InOrder d items rest → StandsInOrder items (behind_model end d (detector_part end d.variables rest))
+  stands_behind [] o = ([], o)
+  stands_behind (i ∷ is) o = behind_choice i is o (choice_answer d.variables i.said) (chooses d.variables i)
 
-  stands_behind : (rest : List Item) → InOrder d items rest → (r : Result (Detector × ℕ) Stop) → r ≡ detector_part end d.variables rest → StandsInOrder items (behind_model end d r)
-  stands_behind rest o (Ok c) h = either_end (eqb c.1 end) c.0 c.1 (with_detector rest o c.0 c.1 h)
-  stands_behind rest o (Err stop) h = (rest, o)
-
-stands_by : (end : ℕ) (items : List Item) (m : ModelEnd) → model_part end naming blank items ≡ m → StandsInOrder items (opened_by end m)
-stands_by end items (stopped stop) h = tt
-stands_by end items (sealed d rest) h = stands_behind end items d rest (model_in_order end items rest d h) (detector_part end d.variables rest) refl
-
-too_long_or_not : (q : Bool) (items : List Item) (stop : Stop) (o : Opened) → StandsInOrder items o → StandsInOrder items (cond q (unsealed stop) o)
-too_long_or_not true items stop o h = tt
-too_long_or_not false items stop o h = h
+stands_by : (end : ℕ) (items : List Item) (m : ModelEnd) → StandsBy naming blank items m → StandsInOrder items (opened_by end m)
+stands_by end items (stopped stop) o = tt
+stands_by end items (sealed d rest) o = stands_behind end items d rest (in_order o)
 
 sheet_stands : (sheet : List ℕ) → StandsInOrder (commands sheet) (opening sheet)
 unfolding opening
-sheet_stands sheet = too_long_or_not (ltb 65536 (length sheet)) (commands sheet) _ _ (stands_by (length sheet) (commands sheet) (model_part (length sheet) naming blank (commands sheet)) refl)
+sheet_stands sheet = cond_both (ltb 65536 (length sheet)) _ _ (StandsInOrder (commands sheet)) (λ _. tt)
+    (λ _. stands_by (length sheet) (commands sheet) (model_part (length sheet) naming blank (commands sheet)) (stand (length sheet) (commands sheet) naming blank))
 
 -- the same of what the code answers
 pub opens_in_order : (sheet : List ℕ) (o : Opened) → o ≡ opening sheet → StandsInOrder (commands sheet) o

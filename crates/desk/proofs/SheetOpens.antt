@@ -1,5 +1,6 @@
 -- How a sheet opens, by its parts.
-use Rattle.std.proofs.Common.{◌≡◌, ℕ, ◌<◌, ◌≤◌, cond, List, length, sym, ap, ◌∙◌, le-ltb, lt-ltb}
+use Rattle.std.proofs.Common.{◌≡◌, ℕ, ◌<◌, ◌≤◌, List, length, ap}
+use Rattle.std.proofs.lemmas.Bool.{cond_below, cond_above}
 use Rattle.refusal.specs.declared.Refusal.TheVariants.{TooMany}
 use Rattle.sheet.specs.Commands.{commands}
 use Rattle.model.specs.Records.{blank}
@@ -15,13 +16,11 @@ use Rattle.desk.specs.Openings.{unsealed, opened_by, opening}
 module _ (sheet : List ℕ) where
   pub too_long : 65536 < length sheet → unsealed (record { refusal = TooMany; place = 65536 }) ≡ opening sheet
   unfolding opening
-  too_long long = ap (λ q. cond q (unsealed (record { refusal = TooMany; place = 65536 })) (opened_by (length sheet) (model_part (length sheet) naming blank (commands sheet)))) (sym (lt-ltb _ _ long))
+  too_long long = cond_below 65536 (length sheet) _ _ long
 
   pub opens_by : length sheet ≤ 65536 → (m : ModelEnd) → m ≡ model_part (length sheet) naming blank (commands sheet) → opened_by (length sheet) m ≡ opening sheet
   unfolding opening
-  opens_by short m is =
-      ap (opened_by (length sheet)) is
-      ∙ ap (λ q. cond q (unsealed (record { refusal = TooMany; place = 65536 })) (opened_by (length sheet) (model_part (length sheet) naming blank (commands sheet)))) (sym (le-ltb _ _ short))
+  opens_by short m is = cond_above 65536 (length sheet) _ _ _ short (ap (opened_by (length sheet)) is)
 
 -- the model of an opening is sealed by its type
 pub every_opening_sealed : (o : Opening) → ModelIsSealed (opening_told o)

@@ -1,19 +1,14 @@
 -- What a command must have been for the model to go on, or to be sealed.
-use Rattle.std.proofs.Common.{◌≡◌, ℕ, Bool, true, false, cond, eqb, List, [], ◌∷◌, ◌++◌, get_or, drop, is_ok, Ok, Err, refl, ap, ◌∙◌, arith, eqb-true}
-use Rattle.refusal.specs.declared.Refusal.{Refusal}
+use Rattle.std.proofs.Common.{◌≡◌, ℕ, true, cond, eqb, List, [], ◌∷◌, ◌++◌, get_or, drop, is_ok, Ok, Err, refl, ap, ◌∙◌, eqb-true}
+use Rattle.std.proofs.lemmas.Bool.{cond-true, cond_both}
 use Rattle.sheet.specs.Reading.{Told}
 use Rattle.model.specs.declared.in_hand.Part.{Part}
 use Rattle.model.specs.declared.in_hand.Part.TheVariants.{Conditions, Effects}
 use Rattle.model.specs.Records.{ModelRecord}
 use Rattle.model.specs.Tables.{Answer, begun}
-use Rattle.model.specs.Writing.{if_done, with_move, move_answer, begin_move, with_part_entry, seal_answer, with_moves}
+use Rattle.model.specs.Writing.{with_move, move_answer, begin_move, with_part_entry, seal_answer, with_moves}
 use Rattle.desk.specs.InOrder.{one_of, written_by}
-use Rattle.desk.specs.Steps.{Phase, naming, writing, ending, goes, seals, refuses, answered, variable_step, move_step, part_step, seal_step, step}
-
--- what came of a test
-pub split : {X : Type 0} {G : Type 0} (b : Bool) (x y t : X) → t ≡ cond b x y → (b ≡ true → t ≡ x → G) → (b ≡ false → t ≡ y → G) → G
-split true x y t h then else = then refl h
-split false x y t h then else = else refl h
+use Rattle.desk.specs.Steps.{Phase, naming, writing, ending, Turned, goes, seals, refuses, answered, variable_step, move_step, part_step, step}
 
 -- a step from p to q, from the model d to e, by the command said, which wrote something
 pub data Went (p q : Phase) (d e : ModelRecord) (said : Told) : Type 0 where
@@ -22,89 +17,46 @@ pub data Went (p q : Phase) (d e : ModelRecord) (said : Told) : Type 0 where
   entered_part : (b : ℕ) → one_of (0x50 ∷ 0x45 ∷ []) b ≡ true → p ≡ writing → q ≡ writing → said.0 ≡ b → e ≡ written_by b said.1 d → Went p q d e said
   entered_end : (b : ℕ) → one_of (0x53 ∷ 0x47 ∷ []) b ≡ true → q ≡ ending → said.0 ≡ b → e ≡ written_by b said.1 d → Went p q d e said
 
--- a step that is done
-is_done : (a : Answer) (e d : ModelRecord) → is_ok a ≡ true → if_done a e d ≡ e
-is_done a e d done = ap (λ q. cond {A = ModelRecord} q e d) done
+-- what a turn says of the command; only Z seals, and it seals the model as it is
+abbrev pub Did : Phase → ModelRecord → Told → Turned → Type 0
+Did p d said (goes q e) = Went p q d e said
+Did p d said (seals e) = (said.0 ≡ 0x5a) × (e ≡ d)
+Did p d said (refuses r) = Unit {0}
 
+-- a move that could be begun
 move_done : (d : ModelRecord) (name : List ℕ) → is_ok (move_answer d) ≡ true → begin_move d name ≡ with_move d name
 move_done d name done = ap (λ q. with_moves d (cond q (d.moves ++ begun name ∷ []) d.moves)) done
 
-module _ (q : Phase) (e : ModelRecord) where
-  never_refused : {G : Type 0} (r : Refusal) → goes q e ≡ refuses r → G
-  never_refused r h = let z : ◌≡◌ {A = ℕ} 0 1 = cc in absurd (omega arith)
+-- a step that was answered
+accepted : (p : Phase) (d : ModelRecord) (said : Told) (a : Answer) (q : Phase) (e : ModelRecord) → (is_ok a ≡ true → Went p q d e said) → Did p d said (answered a q e)
+accepted p d said (Ok done) q e then = then refl
+accepted p d said (Err r) q e then = tt
 
-  never_sealed : {G : Type 0} (d : ModelRecord) → goes q e ≡ seals d → G
-  never_sealed d h = let z : ◌≡◌ {A = ℕ} 0 1 = cc in absurd (omega arith)
+by_variable : (p : Phase) (d : ModelRecord) (said : Told) → said.0 ≡ 0x56 → Did p d said (variable_step p d (get_or said.1 0 0) (drop 1 said.1))
+by_variable naming d said is = accepted naming d said _ naming _ (λ fits. named_one refl refl is (cond-true _ _ _ fits))
+by_variable writing d said is = tt
+by_variable ending d said is = tt
 
-  -- a step that was answered
-  accepted : {G : Type 0} (a : Answer) (p : Phase) (d : ModelRecord) → goes q e ≡ answered a p d → (q ≡ p → e ≡ d → is_ok a ≡ true → G) → G
-  accepted (Ok done) p d h then = then (cc) (cc) refl
-  accepted (Err r) p d h then = never_refused r h
+by_move : (p : Phase) (d : ModelRecord) (said : Told) → said.0 ≡ 0x41 → Did p d said (move_step p d said.1)
+by_move naming d said is = accepted naming d said _ writing _ (λ fits. begun_one (λ end. cc) refl is (move_done d said.1 fits))
+by_move writing d said is = accepted writing d said _ writing _ (λ fits. begun_one (λ end. cc) refl is (move_done d said.1 fits))
+by_move ending d said is = tt
 
-  from_variable : (p : Phase) (d : ModelRecord) (said : Told) → said.0 ≡ 0x56 → goes q e ≡ variable_step p d (get_or said.1 0 0) (drop 1 said.1) → Went p q d e said
-  from_variable naming d said is h = accepted _ naming _ h (λ to made fits. named_one refl to is (made ∙ is_done _ _ d fits))
-  from_variable writing d said is h = never_refused _ h
-  from_variable ending d said is h = never_refused _ h
+by_part : (part : Part) (b : ℕ) → one_of (0x50 ∷ 0x45 ∷ []) b ≡ true → ((d : ModelRecord) (vs : List ℕ) → with_part_entry part d (get_or vs 0 0) (get_or vs 1 0) ≡ written_by b vs d) → (p : Phase) (d : ModelRecord) (said : Told) → said.0 ≡ b → Did p d said (part_step part p d (get_or said.1 0 0) (get_or said.1 1 0))
+by_part part b one writes naming d said is = tt
+by_part part b one writes writing d said is = accepted writing d said _ writing _ (λ fits. entered_part b one refl refl is (cond-true _ _ _ fits ∙ writes d said.1))
+by_part part b one writes ending d said is = tt
 
-  from_move : (p : Phase) (d : ModelRecord) (said : Told) → said.0 ≡ 0x41 → goes q e ≡ move_step p d said.1 → Went p q d e said
-  from_move naming d said is h = accepted _ writing _ h (λ to made fits. begun_one (λ no_end. let z : ◌≡◌ {A = ℕ} 0 1 = cc in absurd (omega arith)) to is (made ∙ move_done d said.1 fits))
-  from_move writing d said is h = accepted _ writing _ h (λ to made fits. begun_one (λ no_end. let z : ◌≡◌ {A = ℕ} 0 1 = cc in absurd (omega arith)) to is (made ∙ move_done d said.1 fits))
-  from_move ending d said is h = never_refused _ h
-
-  from_part : (part : Part) (b : ℕ) → one_of (0x50 ∷ 0x45 ∷ []) b ≡ true → ((d : ModelRecord) (vs : List ℕ) → with_part_entry part d (get_or vs 0 0) (get_or vs 1 0) ≡ written_by b vs d) → (p : Phase) (d : ModelRecord) (said : Told) → said.0 ≡ b → goes q e ≡ part_step part p d (get_or said.1 0 0) (get_or said.1 1 0) → Went p q d e said
-  from_part part b one writes naming d said is h = never_refused _ h
-  from_part part b one writes writing d said is h = accepted _ writing _ h (λ to made fits. entered_part b one refl to is (made ∙ is_done _ _ d fits ∙ writes d said.1))
-  from_part part b one writes ending d said is h = never_refused _ h
-
-  from_seal : {G : Type 0} (d : ModelRecord) → goes q e ≡ seal_step d → G
-  from_seal d h = split (is_ok (seal_answer d)) _ _ _ h (λ _ w. never_sealed d w) (λ _ w. never_refused _ w)
-
-  pub went : (p : Phase) (d : ModelRecord) (said : Told) → goes q e ≡ step p d said → Went p q d e said
-  went p d said h =
-      split (eqb said.0 2) _ _ _ h (λ _ w. never_refused _ w) (λ _ h.
-      split (eqb said.0 1) _ _ _ h (λ _ w. never_refused _ w) (λ _ h.
-      split (eqb said.0 0x56) _ _ _ h (λ is w. from_variable p d said (eqb-true _ _ is) w) (λ _ h.
-      split (eqb said.0 0x41) _ _ _ h (λ is w. from_move p d said (eqb-true _ _ is) w) (λ _ h.
-      split (eqb said.0 0x50) _ _ _ h (λ is w. from_part Conditions 0x50 refl (λ _ _. refl) p d said (eqb-true _ _ is) w) (λ _ h.
-      split (eqb said.0 0x45) _ _ _ h (λ is w. from_part Effects 0x45 refl (λ _ _. refl) p d said (eqb-true _ _ is) w) (λ _ h.
-      split (eqb said.0 0x53) _ _ _ h (λ is w. accepted _ ending _ w (λ to made fits. entered_end 0x53 refl to (eqb-true _ _ is) (made ∙ is_done _ _ d fits))) (λ _ h.
-      split (eqb said.0 0x47) _ _ _ h (λ is w. accepted _ ending _ w (λ to made fits. entered_end 0x47 refl to (eqb-true _ _ is) (made ∙ is_done _ _ d fits))) (λ _ h.
-      split (eqb said.0 0x5a) _ _ _ h (λ is w. from_seal d w) (λ _ w. never_refused _ w)))))))))
-
-module _ (e : ModelRecord) where
-  seal_never_refused : {G : Type 0} (r : Refusal) → seals e ≡ refuses r → G
-  seal_never_refused r h = let z : ◌≡◌ {A = ℕ} 0 1 = cc in absurd (omega arith)
-
-  seal_never_goes : {G : Type 0} (a : Answer) (p : Phase) (d : ModelRecord) → seals e ≡ answered a p d → G
-  seal_never_goes (Ok done) p d h = let z : ◌≡◌ {A = ℕ} 0 1 = cc in absurd (omega arith)
-  seal_never_goes (Err r) p d h = seal_never_refused r h
-
-  no_variable_seals : {G : Type 0} (p : Phase) (d : ModelRecord) (size : ℕ) (name : List ℕ) → seals e ≡ variable_step p d size name → G
-  no_variable_seals naming d size name h = seal_never_goes _ _ _ h
-  no_variable_seals writing d size name h = seal_never_refused _ h
-  no_variable_seals ending d size name h = seal_never_refused _ h
-
-  no_move_seals : {G : Type 0} (p : Phase) (d : ModelRecord) (name : List ℕ) → seals e ≡ move_step p d name → G
-  no_move_seals naming d name h = seal_never_goes _ _ _ h
-  no_move_seals writing d name h = seal_never_goes _ _ _ h
-  no_move_seals ending d name h = seal_never_refused _ h
-
-  no_part_seals : {G : Type 0} (part : Part) (p : Phase) (d : ModelRecord) (i v : ℕ) → seals e ≡ part_step part p d i v → G
-  no_part_seals part naming d i v h = seal_never_refused _ h
-  no_part_seals part writing d i v h = seal_never_goes _ _ _ h
-  no_part_seals part ending d i v h = seal_never_refused _ h
-
-  -- only Z seals, and it seals the model as it is
-  pub sealed_by : (p : Phase) (d : ModelRecord) (said : Told) → seals e ≡ step p d said → (said.0 ≡ 0x5a) × (e ≡ d)
-  sealed_by p d said h =
-      split (eqb said.0 2) _ _ _ h (λ _ w. seal_never_refused _ w) (λ _ h.
-      split (eqb said.0 1) _ _ _ h (λ _ w. seal_never_refused _ w) (λ _ h.
-      split (eqb said.0 0x56) _ _ _ h (λ _ w. no_variable_seals p d _ _ w) (λ _ h.
-      split (eqb said.0 0x41) _ _ _ h (λ _ w. no_move_seals p d _ w) (λ _ h.
-      split (eqb said.0 0x50) _ _ _ h (λ _ w. no_part_seals Conditions p d _ _ w) (λ _ h.
-      split (eqb said.0 0x45) _ _ _ h (λ _ w. no_part_seals Effects p d _ _ w) (λ _ h.
-      split (eqb said.0 0x53) _ _ _ h (λ _ w. seal_never_goes _ _ _ w) (λ _ h.
-      split (eqb said.0 0x47) _ _ _ h (λ _ w. seal_never_goes _ _ _ w) (λ _ h.
-      split (eqb said.0 0x5a) _ _ _ h
-      (λ is w. split (is_ok (seal_answer d)) _ _ _ w (λ _ u. (eqb-true _ _ is, cc)) (λ _ u. seal_never_refused _ u))
-      (λ _ w. seal_never_refused _ w)))))))))
+pub step_did : (p : Phase) (d : ModelRecord) (said : Told) → Did p d said (step p d said)
+step_did p d said =
+    cond_both (eqb said.0 2) _ _ (Did p d said) (λ _. tt) (λ _.
+    cond_both (eqb said.0 1) _ _ (Did p d said) (λ _. tt) (λ _.
+    cond_both (eqb said.0 0x56) _ _ (Did p d said) (λ is. by_variable p d said (eqb-true _ _ is)) (λ _.
+    cond_both (eqb said.0 0x41) _ _ (Did p d said) (λ is. by_move p d said (eqb-true _ _ is)) (λ _.
+    cond_both (eqb said.0 0x50) _ _ (Did p d said) (λ is. by_part Conditions 0x50 refl (λ _ _. refl) p d said (eqb-true _ _ is)) (λ _.
+    cond_both (eqb said.0 0x45) _ _ (Did p d said) (λ is. by_part Effects 0x45 refl (λ _ _. refl) p d said (eqb-true _ _ is)) (λ _.
+    cond_both (eqb said.0 0x53) _ _ (Did p d said) (λ is. accepted p d said _ ending _ (λ fits. entered_end 0x53 refl refl (eqb-true _ _ is) (cond-true _ _ _ fits))) (λ _.
+    cond_both (eqb said.0 0x47) _ _ (Did p d said) (λ is. accepted p d said _ ending _ (λ fits. entered_end 0x47 refl refl (eqb-true _ _ is) (cond-true _ _ _ fits))) (λ _.
+    cond_both (eqb said.0 0x5a) _ _ (Did p d said)
+    (λ is. cond_both (is_ok (seal_answer d)) _ _ (Did p d said) (λ _. (eqb-true _ _ is, refl)) (λ _. tt))
+    (λ _. tt)))))))))

@@ -4,7 +4,7 @@ use Rattle.sheet.specs.Commands.{commands_from}
 use Rattle.model.specs.declared.sealed.Model.{Model}
 use Rattle.model.specs.Drafts.{recorded}
 use Rattle.detectors.specs.declared.choosing.Choice.{Choice}
-use Rattle.detectors.specs.Choosing.{Detector, chosen_told}
+use Rattle.detectors.specs.Choosing.{Detector, FitsModel, chosen_told}
 use Rattle.desk.specs.declared.opening.Stop.{Stop}
 use Rattle.desk.specs.declared.opening.Opening.{Opening}
 use Rattle.desk.specs.declared.opening.Opening.TheVariants.{Unsealed, Unchosen, Ended, Orders}
@@ -29,3 +29,10 @@ opening_told (Unsealed stop) = unsealed stop
 opening_told (Unchosen m stop) = unchosen (recorded m) stop
 opening_told (Ended m choice) = ended (recorded m) (chosen_told choice)
 opening_told (Orders m choice place) = orders (recorded m) (chosen_told choice) place
+
+-- where a detector is chosen, the choice fits the model: a pattern has the variables that its operands give, and they are few enough
+abbrev pub ChoiceFits : Opening → Type 0
+ChoiceFits (Unsealed stop) = Unit {0}
+ChoiceFits (Unchosen m stop) = Unit {0}
+ChoiceFits (Ended m choice) = FitsModel (recorded m).variables choice
+ChoiceFits (Orders m choice place) = FitsModel (recorded m).variables choice

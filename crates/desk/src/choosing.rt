@@ -1,9 +1,9 @@
 //! The command that chooses the detector.
-ghost use Rattle.std.specs.Prelude.{◌≡◌, length};
+ghost use Rattle.std.specs.Prelude.{◌≡◌, length, IfOk};
 ghost use Rattle.sheet.specs.Reading.{told};
 ghost use Rattle.sheet.specs.Commands.{commands_from};
 ghost use Rattle.model.specs.Drafts.{recorded};
-ghost use Rattle.detectors.specs.Choosing.{choice_told};
+ghost use Rattle.detectors.specs.Choosing.{FitsModel, choice_told};
 ghost use Rattle.desk.specs.Choosing.{choice_answer, detector_part};
 ghost use Rattle.desk.specs.Told.{detector_part_told};
 
@@ -16,7 +16,8 @@ use sheet::{Command, command_at};
 
 /// The detector that the command behind the model chooses.
 fn take(model: &Model, command: Command) -> Result<Choice, Refusal>
-    ensures { choice_told result ≡ choice_answer (recorded model.now).variables (told command.entry) }
+    ensures told { choice_told result ≡ choice_answer (recorded model.now).variables (told command.entry) }
+    ensures fits { IfOk result (FitsModel (recorded model.now).variables) }
 {
     match command {
         Command::Detector { kind, variables } => choose(model, kind, variables),
@@ -31,7 +32,8 @@ pub(crate) fn read_detector(
     sheet: &[u8],
     place: usize,
 ) -> Result<Followed<Choice>, Stop>
-    ensures { detector_part_told result ≡ detector_part (length sheet.now) (recorded model.now).variables (commands_from sheet.now place) }
+    ensures told { detector_part_told result ≡ detector_part (length sheet.now) (recorded model.now).variables (commands_from sheet.now place) }
+    ensures fits { IfOk result (λ found. FitsModel (recorded model.now).variables found.value) }
 {
     let Some(found) = command_at(sheet, place) else {
         return Err(Stop::at(sheet.len(), place, Refusal::SheetEnds));

@@ -9,7 +9,7 @@ use std::fmt;
 pub enum Line {
     /// The model is sealed, with so many variables and moves.
     Model { variables: usize, moves: usize },
-    /// The sheet is refused, at a place.
+    /// The sheet is refused, at a place. A number, since a line can be made of any.
     Stop { number: u8, place: usize },
     /// All of the sheet is carried out.
     End,

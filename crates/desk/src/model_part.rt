@@ -17,6 +17,7 @@ use std::ops::ControlFlow::{Break, Continue};
 pub(crate) fn read_model(mut stage: Stage, sheet: &[u8]) -> Result<Followed<Model>, Stop>
     ensures { model_part_told sheet.now result ≡ model_part (length sheet.now) (phase_of stage) (record_so_far stage) (commands_from sheet.now 0) }
 {
+    // By places, since a command's end is known only when it is read.
     let mut place = 0;
     while let Some(found) = command_at(sheet, place) {
         match stage.take(found.command) {

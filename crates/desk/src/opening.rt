@@ -5,8 +5,8 @@ ghost use Rattle.desk.specs.InOrder.{ModelIsSealed, StandsInOrder};
 ghost use Rattle.desk.specs.Lines.{printed};
 ghost use Rattle.desk.specs.ModelPart.{stop_at};
 ghost use Rattle.desk.specs.Openings.{behind_model, opened_by, model_line, stop_line, opening, opening_lines, printed_of};
-ghost use Rattle.desk.specs.Told.{followed_told, model_part_told, opening_told};
-ghost use Rattle.detectors.specs.Choosing.{chosen_told};
+ghost use Rattle.desk.specs.Told.{ChoiceFits, followed_told, model_part_told, opening_told};
+ghost use Rattle.detectors.specs.Choosing.{FitsModel, chosen_told};
 ghost use Rattle.model.specs.Drafts.{recorded};
 
 use crate::choosing::read_detector;
@@ -75,6 +75,7 @@ pub fn open_sheet(heap: Global, sheet: &[u8]) -> Result<Opening, AllocError>
     ensures printed { IfOk result (λ o. printed (opening_lines (opening_told o)) ≡ printed_of sheet.now) }
     ensures sealed { IfOk result (λ o. ModelIsSealed (opening_told o)) }
     ensures in_order { IfOk result (λ o. StandsInOrder (commands sheet.now) (opening_told o)) }
+    ensures fits { IfOk result ChoiceFits }
 {
     if sheet.len() > LONGEST {
         let stop = Stop {
@@ -92,7 +93,8 @@ pub fn open_sheet(heap: Global, sheet: &[u8]) -> Result<Opening, AllocError>
 
 /// A sheet whose model is sealed, with what its detector part comes to.
 fn open_behind(sealed: Followed<Model>, sheet: &[u8]) -> Opening
-    ensures { opening_told result ≡ opened_by (length sheet.now) (model_part_told sheet.now (Ok sealed)) }
+    ensures told { opening_told result ≡ opened_by (length sheet.now) (model_part_told sheet.now (Ok sealed)) }
+    ensures fits { ChoiceFits result }
 {
     let Followed { value: model, next } = sealed;
     match read_detector(&model, sheet, next) {
@@ -103,7 +105,9 @@ fn open_behind(sealed: Followed<Model>, sheet: &[u8]) -> Opening
 
 /// A sheet whose detector is chosen, and which ends there or goes on.
 fn open_chosen(model: Model, chosen: Followed<Choice>, end: usize) -> Opening
-    ensures { opening_told result ≡ behind_model end (recorded model) (Ok (followed_told chosen_told chosen)) }
+    requires { FitsModel (recorded model).variables chosen.value }
+    ensures told { opening_told result ≡ behind_model end (recorded model) (Ok (followed_told chosen_told chosen)) }
+    ensures fits { ChoiceFits result }
 {
     let Followed {
         value: choice,

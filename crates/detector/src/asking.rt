@@ -7,6 +7,7 @@ use crate::Detector;
 use model::row::Row;
 
 /// Whether the detector calls the row dead.
+#[tactic(auto, using(crate::proofs::EqualMeaning::keeps_the_laws, crate::proofs::EqualMeaning::equal_verdicts))]
 pub fn calls_dead<D: Detector>(detector: &D, row: &Row) -> bool
     ensures answer { result ≡ D.dead detector.now row.now }
     ensures equal_verdicts { EqualMeaningGivesEqualVerdicts }

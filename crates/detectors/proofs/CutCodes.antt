@@ -1,25 +1,23 @@
 -- Cuts that give their variables, each by a value below its size: there are no more of them than the product of the sizes.
-use Rattle.std.proofs.Common.{◌≡◌, ℕ, ◌+◌, ◌*◌, ◌<◌, ◌≤◌, true, List, is_some, Some, None, Option, sym, refl, ap, ◌∙◌, subst, ⊎_elim, arith}
+use Rattle.std.proofs.Common.{◌≡◌, ℕ, ◌+◌, ◌*◌, ◌<◌, true, List, is_some, unwrap_or, Some, None, Option, sym, refl, ap, ◌∙◌, subst, arith}
 use Rattle.std.proofs.lemmas.Nat.{mul-add-lt}
-use Rattle.std.proofs.lemmas.Bool.{and_parts, false≢true, ltb-true, cases_lt}
+use Rattle.std.proofs.lemmas.Bool.{and_parts, false≢true}
 use Rattle.model.specs.declared.row.Row.{Row}
 use Rattle.model.specs.declared.moves.Move.{Move}
 use Rattle.model.specs.declared.variable.Variable.{Variable}
 use Rattle.model.specs.Rows.{at}
 use Rattle.model.specs.Moves.{or_else}
-use Rattle.model.specs.Limits.{size_at, entry_fits, row_fits}
-use Rattle.model.proofs.RowFacts.{open_past}
-use Rattle.model.proofs.Progressions.{fits_at}
+use Rattle.model.specs.Limits.{size_at, row_fits}
 use Rattle.detectors.specs.declared.pattern.cut.Cut.{Cut}
 use Rattle.detectors.specs.declared.pattern.variables.Variables.{Variables}
 use Rattle.detectors.specs.Cuts.{entry_of, cut_of, cut_move, progression_cut}
 use Rattle.detectors.specs.PatternMeaning.{size_or_one, product_of_sizes, given_at, gives}
 use Rattle.detectors.specs.CutSameness.{from_entries}
 use Rattle.detectors.specs.Digits.{digits}
+use Rattle.detectors.proofs.FactsOfRows.{given_fits}
 
 abbrev value : Option ℕ → ℕ
-value None = 0
-value (Some v) = v
+value e = unwrap_or e 0
 
 given_value : (e : Option ℕ) → is_some e ≡ true → (v : ℕ) × (e ≡ Some v)
 given_value None h = absurd (false≢true h)
@@ -39,16 +37,9 @@ module _ (vs : List Variable) where
   value_own None e f h k q = h ∙ sym k
   value_own (Some v) e f h k q = h.1 ∙ ap (λ n. Some n) (sym (ap value h.1) ∙ q ∙ ap value k.1) ∙ sym k.1
 
-  -- an entry of a row of the model
-  entry_inside : (row : Row) → row_fits vs row ≡ true → (v y : ℕ) → at row v ≡ Some y → y < size_at vs v
-  entry_inside row fits v y e = ⊎_elim
-      (λ (l : v < 32). ltb-true y (size_at vs v) (subst (λ q. entry_fits (size_at vs v) q ≡ true) e (fits_at vs row fits v l)))
-      (λ (past : 32 ≤ v). let z : ◌≡◌ {A = Option ℕ} None (Some y) = sym (open_past row v past) ∙ e in let n : ◌≡◌ {A = ℕ} 0 1 = cc in absurd (omega arith))
-      (cases_lt v 32)
-
   inside_given : (row : Row) → row_fits vs row ≡ true → (o : Option ℕ) → given_at row o ≡ true → Inside o (entry_of row o)
   inside_given row fits None g = refl
-  inside_given row fits (Some v) g = let y = given_value (at row v) g in (y.0, y.1, entry_inside row fits v y.0 y.1)
+  inside_given row fits (Some v) g = let y = given_value (at row v) g in (y.0, y.1, given_fits vs row fits v y.0 y.1)
 
   -- after a move whose effects e are those of the model
   or_else_inside : (v : ℕ) (e t c : Option ℕ) → ((y : ℕ) → e ≡ Some y → y < size_at vs v) → Inside (Some v) t → Inside (Some v) (or_else e (or_else t c))
@@ -57,7 +48,7 @@ module _ (vs : List Variable) where
 
   inside_next : (m : Move) → row_fits vs m.effects ≡ true → (o t : Option ℕ) → Inside o t → Inside o (or_else (entry_of m.effects o) (or_else t (entry_of m.conditions o)))
   inside_next m fits None t h = ap (λ q. or_else q None) h
-  inside_next m fits (Some v) t h = or_else_inside v (at m.effects v) t (at m.conditions v) (entry_inside m.effects fits v) h
+  inside_next m fits (Some v) t h = or_else_inside v (at m.effects v) t (at m.conditions v) (given_fits vs m.effects fits v) h
 
   module _ (x : Variables) where
     -- the cuts that a walk can reach

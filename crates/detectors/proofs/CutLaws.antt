@@ -42,7 +42,7 @@ module _ (x : Variables) where
   cut_contained r t h = and_from _ _ (kept_of r t h (Some x.first)) (and_from _ _ (kept_of r t h x.second) (kept_of r t h x.third))
 
 -- an entry that is given is the same in every row that contains the row
-keeps_given : (a b : Option ℕ) → keeps a b ≡ true → is_some a ≡ true → a ≡ b
+pub keeps_given : (a b : Option ℕ) → keeps a b ≡ true → is_some a ≡ true → a ≡ b
 keeps_given None b k h = absurd (false≢true h)
 keeps_given (Some v) None k h = absurd (false≢true k)
 keeps_given (Some v) (Some w) k h = ap (λ n. Some n) (sym (eqb-true w v k))

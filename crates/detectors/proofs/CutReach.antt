@@ -1,18 +1,16 @@
 -- The walk lists exactly the cuts of the rows that are reached.
-use Rattle.std.proofs.Common.{◌≡◌, ◌≤◌, true, ◌⊎◌, List, [], ◌∷◌, map, replicate, Decides, sym, refl, ap, subst, inl, inr, ⊎_elim, arith}
+use Rattle.std.proofs.Common.{◌≡◌, ◌≤◌, true, List, [], ◌∷◌, map, replicate, Decides, sym, refl, ap, subst, inl, inr, ⊎_elim, arith}
 use Rattle.std.proofs.lemmas.List.{length-replicate}
-use Rattle.std.proofs.lemmas.Bool.{and_parts, not-true, not_from_false, both_ways, false≢true}
+use Rattle.std.proofs.lemmas.Bool.{not-true, not_from_false, false_from_ne_true, both_ways, false≢true}
 use Rattle.first_come.specs.Arrivals.{Kept, kept, arrived, has, Distinct, keep}
-use Rattle.first_come.proofs.Arrivals.{not_true_false, distinct_keep}
+use Rattle.first_come.proofs.Arrivals.{distinct_keep}
 use Rattle.first_come.proofs.Sameness.{from_equality}
 use Rattle.first_come.proofs.Listings.{keep_from, Holds, holds_on, holds_now, listed_if_held, Sized, sized_on}
 use Rattle.first_come.proofs.Fronts.{has_nth}
 use Rattle.model.specs.declared.row.Row.{Row}
 use Rattle.model.specs.declared.moves.Move.{Move}
 use Rattle.model.specs.Members.{Among}
-use Rattle.model.specs.Limits.{row_fits, move_fits}
 use Rattle.model.specs.Records.{ModelRecord, row_of_model, Sealed}
-use Rattle.model.proofs.Members.{all_among}
 use Rattle.detectors.specs.declared.pattern.cut.Cut.{Cut}
 use Rattle.detectors.specs.declared.pattern.cut.CutMove.{CutMove}
 use Rattle.detectors.specs.declared.pattern.variables.Variables.{Variables}
@@ -21,6 +19,7 @@ use Rattle.detectors.specs.CutWalk.{open_cut, walked, some_contains, cut_off}
 use Rattle.detectors.specs.ReachedCuts.{NoCutRowContainsTheGoal}
 use Rattle.detectors.specs.PatternMeaning.{product_of_sizes, gives}
 use Rattle.detectors.specs.CutSameness.{cut_self, cut_equal}
+use Rattle.detectors.proofs.Limited.{move_limits}
 use Rattle.detectors.proofs.CutRows.{CutReached, first_reached, onward_reached, goal_not_reached, along_reached, cut_goal_inside}
 use Rattle.detectors.proofs.CutCodes.{May, code_of, code_below, code_apart, progression_may, cut_may}
 use Rattle.detectors.proofs.WalkLaws.{container_listed, listed_container, in_results, through_walk, only_walk, AllFollowed, walk_follows_all}
@@ -69,15 +68,21 @@ module _ (ms : List CutMove) (first : Cut) where
   first_held : Holds same_cut cut_self cut_equal first final
   first_held = final_keeps (Holds same_cut cut_self cut_equal first) (holds_on same_cut cut_self cut_equal first) (holds_now same_cut cut_self cut_equal blank first)
 
--- The moves of the walk are cut moves of the model, and those that are left out lead nowhere else.
-pub record MovesOf (d : ModelRecord) (x : Variables) (ms : List CutMove) : Type 0 where
-  pub of_model : (m : CutMove) → Among ms m → (a : Move) × Among d.moves a × (cut_move x a ≡ m)
-  pub enough : (a : Move) → Among d.moves a → (s : Cut) → May d.variables x s → Among ms (cut_move x a) ⊎ (progression_cut (cut_move x a) s ≡ s)
+-- the elements of a list that is mapped
+among_map : {X Y : Type 0} (f : X → Y) (xs : List X) (y : Y) → Among (map f xs) y → (x : X) × Among xs x × (f x ≡ y)
+among_map f [] y a = absurd a
+among_map f (x ∷ xs) y a = ⊎_elim (λ e. (x, inl refl, e)) (λ b. let r = among_map f xs y b in (r.0, inr r.1, r.2)) a
+
+map_among : {X Y : Type 0} (f : X → Y) (xs : List X) (x : X) → Among xs x → Among (map f xs) (f x)
+map_among f [] x a = absurd a
+map_among f (y ∷ ys) x a = ⊎_elim (λ e. inl (ap f e)) (λ b. inr (map_among f ys x b)) a
 
 module _
     (d : ModelRecord) (ok : Sealed d) (x : Variables) (small : product_of_sizes d.variables x ≤ 512)
-    (row : Row) (fits : row_of_model d row ≡ true) (given : gives row x ≡ true)
-    (ms : List CutMove) (moves : MovesOf d x ms) where
+    (row : Row) (fits : row_of_model d row ≡ true) (given : gives row x ≡ true) where
+  abbrev ms : List CutMove
+  ms = map (cut_move x) d.moves
+
   abbrev first : Cut
   first = cut_of x row
 
@@ -88,15 +93,13 @@ module _
   Inside = May d.variables x
 
   move_inside : (a : Move) → Among d.moves a → (s : Cut) → Inside s → Inside (progression_cut (cut_move x a) s)
-  move_inside a among s m =
-      let both = all_among (move_fits d.variables) d.moves a ok.move_values_below_sizes among in
-      progression_may d.variables x a (and_parts (row_fits d.variables a.conditions) _ both).1 s m
+  move_inside a among s m = progression_may d.variables x a (move_limits d ok a among).1 s m
 
   -- what goes along with the model's moves holds of every listed cut
   listed_only : (P : Cut → Type 0) → ((a : Move) → Among d.moves a → (t : Cut) → P t → applicable_cut (cut_move x a) t ≡ true → P (progression_cut (cut_move x a) t)) → P first → (s : Cut) → Listed s → P s
   listed_only P on p =
       final_only ms first P
-      (λ m among t q can. let r = moves.of_model m among in
+      (λ m among t q can. let r = among_map (cut_move x) d.moves m among in
       subst (λ n. P (progression_cut n t)) r.2 (on r.0 r.1 t q (subst (λ n. applicable_cut n t ≡ true) (sym r.2) can)))
       p
 
@@ -117,10 +120,8 @@ module _
       let inside = listed_inside s here in
       let place = has_nth same_cut cut_equal (arrived (final ms first)) s here in
       let next = progression_cut (cut_move x a) s in
-      ⊎_elim
-      (λ taken. listed_if_came next (move_inside a among s inside) (final_followed ms first place.0 s place.1 next (in_results ms s (cut_move x a) taken can)))
-      (λ idle. subst Listed (sym idle) here)
-      (moves.enough a among s inside)
+      listed_if_came next (move_inside a among s inside)
+      (final_followed ms first place.0 s place.1 next (in_results ms s (cut_move x a) (map_among (cut_move x) d.moves a among) can))
 
   first_listed : Listed first
   first_listed = listed_if_came first (cut_may d.variables x row fits given) (first_held ms first)
@@ -132,22 +133,7 @@ module _
       let cuts = arrived (final ms first) in (
         (λ off t reached inside. both_ways (some_contains goal cuts) (not-true (some_contains goal cuts) off)
             (listed_container goal cuts (cut_of x t) (along_reached x d row Listed first_listed listed_onward t reached) (cut_goal_inside x d row t inside))),
-        (λ none. not_from_false (some_contains goal cuts) (not_true_false (some_contains goal cuts)
+        (λ none. not_from_false (some_contains goal cuts) (false_from_ne_true (some_contains goal cuts)
             (λ some. let r = container_listed goal cuts some in
             goal_not_reached x d row none r.0 (listed_only (CutReached x d row) (onward_reached x d row) (first_reached x d row) r.0 r.1) r.2))),
       )
-
--- all cut moves
-among_map : {X Y : Type 0} (f : X → Y) (xs : List X) (y : Y) → Among (map f xs) y → (x : X) × Among xs x × (f x ≡ y)
-among_map f [] y a = absurd a
-among_map f (x ∷ xs) y a = ⊎_elim (λ e. (x, inl refl, e)) (λ b. let r = among_map f xs y b in (r.0, inr r.1, r.2)) a
-
-map_among : {X Y : Type 0} (f : X → Y) (xs : List X) (x : X) → Among xs x → Among (map f xs) (f x)
-map_among f [] x a = absurd a
-map_among f (y ∷ ys) x a = ⊎_elim (λ e. inl (ap f e)) (λ b. inr (map_among f ys x b)) a
-
-pub all_moves : (d : ModelRecord) (x : Variables) → MovesOf d x (map (cut_move x) d.moves)
-all_moves d x = record {
-  of_model = among_map (cut_move x) d.moves;
-  enough = λ a among _ _. inl (map_among (cut_move x) d.moves a among);
-}

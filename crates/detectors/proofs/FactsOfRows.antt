@@ -1,6 +1,8 @@
 -- Which facts a row has, and when all of them are among those listed.
 use Rattle.std.proofs.Common.{◌≡◌, ℕ, zero, suc, ◌+◌, ◌-◌, ◌<◌, ◌≤◌, Bool, true, false, List, [], ◌∷◌, Some, None, Option, sym, refl, ap, ◌∙◌, subst, ⊎_elim, arith}
-use Rattle.std.proofs.lemmas.Bool.{cases_lt, cases_eq, or_cases, and_cases, eqb-true, eq-eqb, ltb-true, false≢true, true≢false}
+use Rattle.std.proofs.Math.Bool.{or-false}
+use Rattle.std.proofs.lemmas.Option.{none-some}
+use Rattle.std.proofs.lemmas.Bool.{cases_lt, cases_eq, and_cases, eqb-true, eq-eqb, ltb-true, false≢true, true≢false}
 use Rattle.first_come.specs.Arrivals.{Kept, has, keep_all}
 use Rattle.first_come.proofs.Listings.{has_append, has_left, has_right, keep_all_append}
 use Rattle.model.specs.declared.row.Row.{Row}
@@ -20,19 +22,16 @@ use Rattle.detectors.specs.SameFacts.{fact_self, fact_equal}
 abbrev pub StillToList : (ℕ → List Fact) → ℕ → ℕ → Kept Fact → Kept Fact → Type 0
 StillToList f n i k all = keep_all same_fact k (facts_from f i (n - i)) ≡ all
 
-module _ (f : ℕ → List Fact) (n i : ℕ) (k all : Kept Fact) (left : StillToList f n i k all) where
-  -- those at i are listed
-  pub listed_one : i < n → (after : Kept Fact) → after ≡ keep_all same_fact k (f i) → StillToList f n (i + 1) after all
+module _ (f : ℕ → List Fact) (n i : ℕ) (k : Kept Fact) where
+  -- those at i are listed first
+  pub listed_one : i < n → keep_all same_fact k (facts_from f i (n - i)) ≡ keep_all same_fact (keep_all same_fact k (f i)) (facts_from f (i + 1) (n - (i + 1)))
   unfolding facts_from
-  listed_one h after is =
-      let rest = facts_from f (i + 1) (n - (i + 1)) in
-      let e : n - i ≡ suc (n - (i + 1)) = omega arith in
-      ap (λ p. keep_all same_fact p rest) is ∙ sym (ap (λ m. keep_all same_fact k (facts_from f i m)) e ∙ keep_all_append same_fact k (f i) rest) ∙ left
+  listed_one h = let e : n - i ≡ suc (n - (i + 1)) = omega arith in ap (λ m. keep_all same_fact k (facts_from f i m)) e ∙ keep_all_append same_fact k (f i) _
 
   -- none is left
-  pub listed_all : n ≤ i → k ≡ all
+  pub listed_all : n ≤ i → keep_all same_fact k (facts_from f i (n - i)) ≡ k
   unfolding facts_from
-  listed_all h = let e : n - i ≡ 0 = omega arith in sym (ap (λ m. keep_all same_fact k (facts_from f i m)) e) ∙ left
+  listed_all h = let e : n - i ≡ 0 = omega arith in ap (λ m. keep_all same_fact k (facts_from f i m)) e
 
 -- each fact comes from one of the numbers
 from_which : (f : ℕ → List Fact) (i n : ℕ) (p : Fact) → has same_fact (facts_from f i n) p ≡ true → (j : ℕ) × (j < i + n) × (has same_fact (f j) p ≡ true)
@@ -52,7 +51,7 @@ from_each f i (suc n) p j a b h =
     (cases_eq j i)
 
 only : (f p : Fact) → has same_fact (f ∷ []) p ≡ true → f ≡ p
-only f p h = ⊎_elim (fact_equal f p) (λ t. absurd (false≢true t)) (or_cases (same_fact f p) false h)
+only f p h = fact_equal f p (sym (or-false (same_fact f p)) ∙ h)
 
 itself : (f : Fact) → has same_fact (f ∷ []) f ≡ true
 itself f = rw (fact_self f) refl
@@ -60,7 +59,7 @@ itself f = rw (fact_self f) refl
 -- a row gives only the first 32 variables
 pub given_below : (row : Row) (v x : ℕ) → at row v ≡ Some x → v < 32
 given_below row v x h =
-    ⊎_elim (λ (l : v < 32). l) (λ (past : 32 ≤ v). let none = open_past row v past in let z : ◌≡◌ {A = ℕ} 0 1 = cc in absurd (omega arith)) (cases_lt v 32)
+    ⊎_elim (λ (l : v < 32). l) (λ (past : 32 ≤ v). absurd (none-some x (sym (open_past row v past) ∙ h))) (cases_lt v 32)
 
 -- what a row gives is below its variable's size
 pub given_fits : (vs : List Variable) (row : Row) → row_fits vs row ≡ true → (v x : ℕ) → at row v ≡ Some x → x < size_at vs v

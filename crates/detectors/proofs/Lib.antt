@@ -1,4 +1,3 @@
-pub mod Entries
 pub mod FactsOfRows
 pub mod Rounds
 pub mod Limited

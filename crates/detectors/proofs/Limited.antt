@@ -1,13 +1,14 @@
--- The facts of a sealed model: at most 512, each with a number of its own.
+-- The limits that a sealed model keeps.
 use Rattle.std.proofs.Common.{◌≡◌, ℕ, zero, suc, ◌<◌, ◌≤◌, true, ltb, leb, List, [], ◌∷◌, length, ap, ⊎_elim, arith}
 use Rattle.std.proofs.lemmas.List.{get_or_past}
 use Rattle.std.proofs.lemmas.Bool.{cases_lt, and_parts, leb-true}
 use Rattle.model.specs.declared.variable.Variable.{Variable}
-use Rattle.model.specs.Limits.{size_at, size_fits, sizes_fit, no_variable}
+use Rattle.model.specs.declared.moves.Move.{Move}
+use Rattle.model.specs.Members.{Among}
+use Rattle.model.proofs.Members.{all_among}
+use Rattle.model.specs.Limits.{size_at, size_fits, sizes_fit, no_variable, row_fits, move_fits}
 use Rattle.model.specs.Records.{ModelRecord, Sealed}
 use Rattle.detectors.specs.declared.relaxed.fact.Fact.{Fact}
-use Rattle.detectors.specs.Facts.{fact_number}
-use Rattle.detectors.specs.FactMarking.{numbers_apart}
 
 -- a variable that has values is one of the model
 pub sized_below : (vs : List Variable) (v x : ℕ) → x < size_at vs v → v < length vs
@@ -29,8 +30,6 @@ limited d sealed f below = (
   omega (arith, size_at_most d.variables f.variable sealed.sizes_from_1_to_16),
 )
 
-pub limited_number_below : (f : Fact) → Limited f → fact_number f < 512
-limited_number_below f within = omega arith
-
-pub limited_numbers_apart : (f g : Fact) → Limited f → Limited g → fact_number f ≡ fact_number g → f ≡ g
-limited_numbers_apart f g a b = numbers_apart f g a.1 b.1
+-- the conditions and effects of a move of the model have values below the sizes
+pub move_limits : (d : ModelRecord) → Sealed d → (m : Move) → Among d.moves m → (row_fits d.variables m.conditions ≡ true) × (row_fits d.variables m.effects ≡ true)
+move_limits d sealed m among = and_parts _ _ (all_among (move_fits d.variables) d.moves m sealed.move_values_below_sizes among)

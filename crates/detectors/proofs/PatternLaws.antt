@@ -16,7 +16,7 @@ use Rattle.detectors.specs.ReachedCuts.{NoCutRowContainsTheGoal}
 use Rattle.detectors.specs.PatternMeaning.{product_of_sizes, gives, pattern_dead, PatternDecides}
 use Rattle.detectors.proofs.CutLaws.{cut_progression, cut_applicable, cut_contained, same_cuts}
 use Rattle.detectors.proofs.CutRows.{CutReached, first_reached, onward_reached, goal_not_reached}
-use Rattle.detectors.proofs.CutReach.{cut_off_decides, all_moves}
+use Rattle.detectors.proofs.CutReach.{cut_off_decides}
 
 module _ (d : ModelRecord) (x : Variables) where
   abbrev off : Cut → Bool
@@ -34,7 +34,7 @@ module _ (d : ModelRecord) (x : Variables) where
 
   decides : (row : Row) → Sealed d → product_of_sizes d.variables x ≤ 512 → row_of_model d row ≡ true → gives row x ≡ true → Decides (pattern_dead d x row) (NoCutRowContainsTheGoal d x row)
   decides row ok small fits given =
-      let walk = cut_off_decides d ok x small row fits given _ (all_moves d x) in
+      let walk = cut_off_decides d ok x small row fits given in
       ((λ dead. walk.0 (dead_parts row dead).2), (λ none. dead_from row fits given (walk.1 none)))
 
   -- the cuts of the states along a plan are reached
@@ -63,4 +63,4 @@ module _ (d : ModelRecord) (x : Variables) where
 
 pub pattern_decides : PatternDecides
 unfolding PatternDecides
-pattern_decides d x row ok small fits given = decides d x row ok small fits given
+pattern_decides = decides

@@ -1,24 +1,24 @@
 -- The facts listed in the end are those reached.
 use Rattle.std.proofs.Common.{◌≡◌, ℕ, zero, suc, ◌<◌, true, List, [], ◌∷◌, Some, Decides, sym, refl, ◌∙◌, subst, inl, inr, ⊎_elim, arith}
 use Rattle.std.proofs.lemmas.List.{length-replicate}
-use Rattle.std.proofs.lemmas.Bool.{cond_both, and_parts, and_from, not-true, not_from_false, both_ways, false≢true}
+use Rattle.std.proofs.lemmas.Bool.{cond_both, and_parts, and_from, not-true, not_from_false, false_from_ne_true, both_ways, false≢true}
 use Rattle.first_come.specs.Arrivals.{Kept, arrived, has, Distinct, keep, keep_all}
-use Rattle.first_come.proofs.Arrivals.{not_true_false, distinct_keep}
+use Rattle.first_come.proofs.Arrivals.{distinct_keep}
 use Rattle.first_come.proofs.Listings.{keep_all_from, through_all, Holds, holds_on, holds_each, listed_if_held, Sized, sized_on}
 use Rattle.model.specs.declared.row.Row.{Row}
 use Rattle.model.specs.declared.moves.Move.{Move}
-use Rattle.model.specs.Limits.{size_at, row_fits, move_fits}
+use Rattle.model.specs.Limits.{size_at}
 use Rattle.model.specs.Members.{Among}
 use Rattle.model.specs.Records.{ModelRecord, Sealed, row_of_model}
 use Rattle.model.specs.Rows.{at}
-use Rattle.model.proofs.Members.{all_among}
 use Rattle.detectors.specs.declared.relaxed.fact.Fact.{Fact}
 use Rattle.detectors.specs.Facts.{fact_of, same_fact, fact_number, row_facts, given_facts, all_reached}
 use Rattle.detectors.specs.Closure.{try_move, round, rounds, closure, no_facts, first_facts, goal_missed}
 use Rattle.detectors.specs.ReachedFacts.{Reached, at_first, added, SomeGoalFactNotReached, RelaxedDecides}
+use Rattle.detectors.specs.FactMarking.{numbers_apart}
 use Rattle.detectors.specs.SameFacts.{fact_self, fact_equal, same_fact_equivalence}
 use Rattle.detectors.proofs.FactsOfRows.{given_fits, given_in, in_given, row_in, in_row, all_reached_each, all_reached_from, all_reached_fails}
-use Rattle.detectors.proofs.Limited.{Limited, limited, limited_number_below, limited_numbers_apart}
+use Rattle.detectors.proofs.Limited.{Limited, limited, move_limits}
 use Rattle.detectors.proofs.Rounds.{room, closure_closed}
 
 -- what every fact that comes keeps, the rounds keep
@@ -100,9 +100,7 @@ module _ (d : ModelRecord) (row : Row) where
     Below v x = x < size_at d.variables v
 
     effects_below : (m : Move) → Among d.moves m → (v x : ℕ) → at m.effects v ≡ Some x → Below v x
-    effects_below m among v x g =
-        let both = all_among (move_fits d.variables) d.moves m sealed.move_values_below_sizes among in
-        given_fits d.variables m.effects (and_parts (row_fits d.variables m.conditions) _ both).1 v x g
+    effects_below m among v x g = given_fits d.variables m.effects (move_limits d sealed m among).1 v x g
 
     listed_limited : (f : Fact) → has same_fact (arrived final) f ≡ true → Limited f
     listed_limited f h =
@@ -112,7 +110,9 @@ module _ (d : ModelRecord) (row : Row) where
     -- a full list has every fact within the limits, so what came is listed
     came_listed : (f : Fact) → Limited f → Holds same_fact fact_self fact_equal f final → has same_fact (arrived final) f ≡ true
     came_listed f within h =
-        listed_if_held same_fact fact_self fact_equal Limited fact_number 512 limited_number_below limited_numbers_apart final (omega (arith, final_sized.0)) final_sized.1 final_apart listed_limited f within h
+        listed_if_held same_fact fact_self fact_equal Limited fact_number 512
+        (λ g limits. omega arith) (λ g p a b. numbers_apart g p a.1 b.1)
+        final (omega (arith, final_sized.0)) final_sized.1 final_apart listed_limited f within h
 
     -- every fact reached is listed
     reached_listed : (v x : ℕ) → Reached d row v x → has same_fact (arrived final) (fact_of v x) ≡ true
@@ -134,7 +134,7 @@ module _ (d : ModelRecord) (row : Row) where
     missed_decides = (
       (λ missed. let r = all_reached_fails (arrived final) d.goal (not-true (all_reached (arrived final) d.goal) missed) in
           (r.0, r.1, r.2, λ reached. both_ways (has same_fact (arrived final) (fact_of r.0 r.1)) r.3 (reached_listed r.0 r.1 reached))),
-      (λ some. not_from_false (all_reached (arrived final) d.goal) (not_true_false (all_reached (arrived final) d.goal)
+      (λ some. not_from_false (all_reached (arrived final) d.goal) (false_from_ne_true (all_reached (arrived final) d.goal)
           (λ all. some.3 (listed_reached (fact_of some.0 some.1) (all_reached_each (arrived final) d.goal all some.0 some.1 some.2))))),
     )
 

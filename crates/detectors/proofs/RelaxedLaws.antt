@@ -4,7 +4,7 @@ use Rattle.std.proofs.lemmas.Bool.{and_parts, false≢true, eqb-true, eq-eqb}
 use Rattle.std.proofs.lemmas.Bool.Decides.{nat_tests}
 use Rattle.model.specs.declared.row.Row.{Row}
 use Rattle.model.specs.declared.moves.Move.{Move}
-use Rattle.model.specs.Limits.{row_fits, move_fits, complete}
+use Rattle.model.specs.Limits.{move_fits, complete}
 use Rattle.model.specs.Members.{Among}
 use Rattle.model.specs.Moves.{or_else, next_entry, applicable, progression}
 use Rattle.model.specs.Plans.{Leads, Plan}
@@ -18,8 +18,9 @@ use Rattle.model.proofs.RowFacts.{at_row_of}
 use Rattle.detector.specs.Laws.{Lawful}
 use Rattle.detectors.specs.Closure.{goal_missed, relaxed_dead}
 use Rattle.detectors.specs.ReachedFacts.{agrees, Reached, at_first, added, RelaxedDecides}
+use Rattle.detectors.proofs.CutLaws.{keeps_given}
 use Rattle.detectors.proofs.FactsOfRows.{given_below, given_fits}
-use Rattle.detectors.proofs.Limited.{sized_below}
+use Rattle.detectors.proofs.Limited.{sized_below, move_limits}
 use Rattle.detectors.proofs.ReachedDecided.{relaxed_decides}
 
 keeps_agrees : (a b : Option ℕ) (x : ℕ) → keeps a b ≡ true → agrees b x ≡ true → agrees a x ≡ true
@@ -32,19 +33,12 @@ given_same : (x : ℕ) (e : Option ℕ) → is_some e ≡ true → differ (Some 
 given_same x None h k = absurd (false≢true h)
 given_same x (Some z) h k = ap (λ n. Some n) (sym (eqb-true x z (grind (arith, nat_tests))))
 
-kept_same : (x : ℕ) (e : Option ℕ) → keeps (Some x) e ≡ true → e ≡ Some x
-kept_same x None h = absurd (false≢true h)
-kept_same x (Some z) h = ap (λ n. Some n) (eqb-true z x h)
-
 module _ (d : ModelRecord) (sealed : Sealed d) where
   -- from a row that contains another, no more is reached
   reached_from_smaller : (r t : Row) → contained r t ≡ true → (v x : ℕ) → Reached d t v x → Reached d r v x
   reached_from_smaller r t h _ _ (at_first v x l g) =
       at_first v x l (keeps_agrees (at r v) (at t v) x (contained_at r t h v (omega (arith, sealed.at_most_32_variables, sized_below d.variables v x l))) g)
   reached_from_smaller r t h _ _ (added m among conditions v x g) = added m among (λ u y q. reached_from_smaller r t h u y (conditions u y q)) v x g
-
-  move_limits : (m : Move) → Among d.moves m → move_fits d.variables m ≡ true
-  move_limits m among = all_among (move_fits d.variables) d.moves m sealed.move_values_below_sizes among
 
   -- all facts of a row are reached from another
   abbrev FactsReached : Row → Row → Type 0
@@ -56,8 +50,7 @@ module _ (d : ModelRecord) (sealed : Sealed d) where
   module _ (from : Row) where
     conditions_reached : (m : Move) → Among d.moves m → (s : Row) → state_of_model d s ≡ true → FactsReached from s → applicable m s ≡ true → FactsReached from m.conditions
     conditions_reached m among s state reached can u y q =
-        let fits = (and_parts (row_fits d.variables m.conditions) (row_fits d.variables m.effects) (move_limits m among)).0 in
-        let within = sized_below d.variables u y (given_fits d.variables m.conditions fits u y q) in
+        let within = sized_below d.variables u y (given_fits d.variables m.conditions (move_limits d sealed m among).0 u y q) in
         let whole = (and_parts (row_of_model d s) (complete d.variables s) state).1 in
         let given = (all_below_decides (λ i. is_some (at s i)) (length d.variables)).0 whole u within in
         let apart = differ_nowhere m s can u (given_below m.conditions u y q) in
@@ -80,14 +73,14 @@ module _ (d : ModelRecord) (sealed : Sealed d) where
     leads_reached (n ∷ ns) s t state reached way =
         let m = way.0 in
         let among = nth_among d.moves n m way.1 in
-        leads_reached ns (progression m s) t (state_progresses d m s (move_limits m among) state) (step_reached m among s state reached way.2) way.3
+        leads_reached ns (progression m s) t (state_progresses d m s (all_among (move_fits d.variables) d.moves m sealed.move_values_below_sizes among) state) (step_reached m among s state reached way.2) way.3
 
   -- so from a state with a plan the goal facts are reached
   goal_reached : (s : Row) → state_of_model d s ≡ true → (ns : List ℕ) → Plan d s ns → FactsReached s d.goal
   goal_reached s state ns plan v x q =
       let fits = (and_parts (row_of_model d s) (complete d.variables s) state).0 in
       let kept = contained_at d.goal plan.0 plan.2 v (given_below d.goal v x q) in
-      leads_reached s ns s plan.0 state (own_reached s fits) plan.1 v x (kept_same x (at plan.0 v) (subst (λ e. keeps e (at plan.0 v) ≡ true) q kept))
+      leads_reached s ns s plan.0 state (own_reached s fits) plan.1 v x (sym (keeps_given (at d.goal v) (at plan.0 v) kept (ap is_some q)) ∙ q)
 
   pub relaxed_lawful : Lawful d (relaxed_dead d)
   unfolding RelaxedDecides

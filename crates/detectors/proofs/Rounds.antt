@@ -31,8 +31,7 @@ module _ (ms : List Move) where
 
   -- from the places left on, any number of rounds does the same
   rounds_enough : (n p : ℕ) (k : Kept Fact) → k.len ≤ length k.places → room k ≤ n → room k ≤ p → rounds n k ms ≡ rounds p k ms
-  rounds_enough zero zero k h a b = refl
-  rounds_enough zero (suc p) k h a b = sym (rounds_fixed (suc p) k (full_fixed k h a))
+  rounds_enough zero p k h a b = sym (rounds_fixed p k (full_fixed k h a))
   rounds_enough (suc n) zero k h a b = rounds_fixed (suc n) k (full_fixed k h b)
   rounds_enough (suc n) (suc p) k h a b =
       let g = grows_round k ms in

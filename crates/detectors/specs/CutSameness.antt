@@ -1,32 +1,21 @@
 -- Cuts are known by their entries, so the test of sameness decides equality.
-use Rattle.std.specs.Prelude.{◌≡◌, ℕ, true, Some, None, Option, refl}
-use Rattle.std.proofs.Common.{ap, ◌∙◌}
-use Rattle.std.proofs.lemmas.Bool.{eqb-true, eq-eqb, and_parts, and_from, false≢true}
+use Rattle.std.specs.Prelude.{◌≡◌, true, Decides, refl}
+use Rattle.std.proofs.lemmas.Bool.Decides.{Decides-and}
+use Rattle.model.specs.SameRows.{same_entry_decides}
 use Rattle.model.specs.Rows.{same_entry}
 use Rattle.detectors.specs.declared.pattern.cut.Cut.{Cut}
 use Rattle.detectors.specs.Cuts.{same_cut}
 
-entry_self : (e : Option ℕ) → same_entry e e ≡ true
-entry_self None = refl
-entry_self (Some v) = eq-eqb v v refl
-
-entry_equal : (a b : Option ℕ) → same_entry a b ≡ true → a ≡ b
-entry_equal None None h = refl
-entry_equal None (Some w) h = absurd (false≢true h)
-entry_equal (Some v) None h = absurd (false≢true h)
-entry_equal (Some v) (Some w) h = ap (λ n. Some n) (eqb-true v w h)
-
-abbrev cut_with : Option ℕ → Option ℕ → Option ℕ → Cut
-cut_with a b c = record { first = a; second = b; third = c }
-
 pub from_entries : (s t : Cut) → s.first ≡ t.first → s.second ≡ t.second → s.third ≡ t.third → s ≡ t
-from_entries s t p q r = ap (λ e. cut_with e s.second s.third) p ∙ ap (λ e. cut_with t.first e s.third) q ∙ ap (cut_with t.first t.second) r
+from_entries s t p q r = λ i. record { first = p i; second = q i; third = r i }
+
+same_cut_decides : (s t : Cut) → Decides (same_cut s t) ((s.first ≡ t.first) × ((s.second ≡ t.second) × (s.third ≡ t.third)))
+same_cut_decides s t =
+    Decides-and (same_entry s.first t.first) _ (same_entry_decides s.first t.first)
+    (Decides-and (same_entry s.second t.second) (same_entry s.third t.third) (same_entry_decides s.second t.second) (same_entry_decides s.third t.third))
 
 pub cut_self : (s : Cut) → same_cut s s ≡ true
-cut_self s = and_from (same_entry s.first s.first) _ (entry_self s.first) (and_from (same_entry s.second s.second) _ (entry_self s.second) (entry_self s.third))
+cut_self s = (same_cut_decides s s).1 (refl, (refl, refl))
 
 pub cut_equal : (s t : Cut) → same_cut s t ≡ true → s ≡ t
-cut_equal s t h =
-    let a = and_parts (same_entry s.first t.first) _ h in
-    let b = and_parts (same_entry s.second t.second) _ a.1 in
-    from_entries s t (entry_equal s.first t.first a.0) (entry_equal s.second t.second b.0) (entry_equal s.third t.third b.1)
+cut_equal s t h = let e = (same_cut_decides s t).0 h in from_entries s t e.0 e.1.0 e.1.1

@@ -19,6 +19,7 @@ pub struct Bare {
 
 impl Bare {
     /// The bare detector of a model.
+    #[tactic(auto, using(crate::proofs::ShippedLaws::bare_lawful))]
     pub fn new(model: Model) -> Bare
         ensures model { bare_model result ≡ recorded model }
         ensures lawful { Lawful (bare_model result) (bare_dead (bare_model result)) }

@@ -15,7 +15,9 @@ use refusal::Refusal;
 use std::alloc::{AllocError, Global};
 
 /// Makes the detector of a kind: 0 is bare, 1 relaxed and 2 a pattern. The first two take no variable, so that each operand is
-/// 255; a pattern takes one to three. Where it is refused the model is given back.
+/// 255; a pattern takes one to three. Where it is refused the model is given back. The kind is a number, since one that is unknown is
+/// refused here.
+#[tactic(auto, using(crate::proofs::ShippedLaws::shipped_lawful))]
 pub fn make(
     heap: Global,
     model: Model,

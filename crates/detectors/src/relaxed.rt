@@ -26,6 +26,7 @@ pub struct Relaxed {
 
 impl Relaxed {
     /// The relaxed detector of a model.
+    #[tactic(auto, using(crate::proofs::RelaxedLaws::relaxed_lawful, crate::proofs::ReachedDecided::relaxed_decides, crate::proofs::WorkedVerdicts::worked_relaxed_verdicts))]
     pub fn new(model: Model) -> Relaxed
         ensures model { relaxed_model result ≡ recorded model }
         ensures lawful { Lawful (relaxed_model result) (relaxed_dead (relaxed_model result)) }

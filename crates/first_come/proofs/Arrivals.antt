@@ -1,21 +1,10 @@
 -- Laws of first-come lists.
-use Rattle.std.proofs.Common.{◌≡◌, Bool, true, false, ◌||◌, List, [], ◌∷◌, ◌++◌, length, sym, refl, ap, ◌∙◌, subst}
+use Rattle.std.proofs.Common.{◌≡◌, Bool, true, false, ◌||◌, List, [], ◌∷◌, ◌++◌, length, sym, refl, ap, ◌∙◌}
 use Rattle.std.proofs.lemmas.List.{take_more_set}
+use Rattle.std.proofs.Math.Bool.{or-false, or_assoc}
 use Rattle.std.proofs.lemmas.Bool.{or_parts, or_from, cond_both, ltb-true}
 use Rattle.std.specs.Cmp.{IsEquivalence}
 use Rattle.first_come.specs.Arrivals.{Kept, arrived, has, has_room, with_next, put_unless, keep, Distinct}
-
-pub or_false : (a : Bool) → (a || false) ≡ a
-or_false true = refl
-or_false false = refl
-
-or_assoc : (a b c : Bool) → ((a || b) || c) ≡ (a || (b || c))
-or_assoc true b c = refl
-or_assoc false b c = refl
-
-pub not_true_false : (b : Bool) → (b ≡ true → ⊥) → b ≡ false
-not_true_false true n = absurd (n refl)
-not_true_false false n = refl
 
 module _ {T : Type 0} (k : Kept T) (x : T) where
   -- an item that is put was held, or is added, or no place is left
@@ -27,9 +16,12 @@ module _ {T : Type 0} (k : Kept T) (x : T) where
   arrived_next room = take_more_set k.places k.len x (ltb-true k.len (length k.places) room)
 
 module _ {T : Type 0} (same : T → T → Bool) where
+  pub has_both : (xs ys : List T) (y : T) → has same (xs ++ ys) y ≡ (has same xs y || has same ys y)
+  has_both [] ys y = refl
+  has_both (x ∷ xs) ys y = ap (λ b. same x y || b) (has_both xs ys y) ∙ sym (or_assoc (same x y) (has same xs y) (has same ys y))
+
   pub has_push : (xs : List T) (x y : T) → has same (xs ++ x ∷ []) y ≡ (has same xs y || same x y)
-  has_push [] x y = or_false (same x y)
-  has_push (z ∷ zs) x y = ap (λ b. same z y || b) (has_push zs x y) ∙ sym (or_assoc (same z y) (has same zs y) (same x y))
+  has_push xs x y = has_both xs (x ∷ []) y ∙ ap (λ b. has same xs y || b) (or-false (same x y))
 
   pub distinct_push : IsEquivalence same → (xs : List T) (x : T) → Distinct same xs → has same xs x ≡ false → Distinct same (xs ++ x ∷ [])
   distinct_push laws [] x d h = (refl, tt)
@@ -45,4 +37,4 @@ module _ {T : Type 0} (same : T → T → Bool) where
 
   -- the same of what the code keeps
   pub distinct_after : IsEquivalence same → (k after : Kept T) (x : T) → after ≡ keep same k x → Distinct same (arrived k) → Distinct same (arrived after)
-  distinct_after laws k after x is d = subst (λ n. Distinct same (arrived n)) (sym is) (distinct_keep laws k x d)
+  distinct_after laws k after x is d = rw is (distinct_keep laws k x d)

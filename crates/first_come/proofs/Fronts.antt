@@ -1,6 +1,7 @@
 -- What is listed stays at its place.
-use Rattle.std.proofs.Common.{◌≡◌, ℕ, zero, suc, ◌<◌, ◌≤◌, Bool, true, List, [], ◌∷◌, ◌++◌, length, Some, None, sym, refl, ap, ◌∙◌, subst, ⊎_elim, arith}
+use Rattle.std.proofs.Common.{◌≡◌, ℕ, zero, suc, ◌<◌, ◌≤◌, Bool, true, List, [], ◌∷◌, ◌++◌, length, Some, None, refl, ap, ◌∙◌, subst, ⊎_elim, arith}
 use Rattle.std.specs.List.{slice_get}
+use Rattle.std.proofs.lemmas.Option.{slice_get_cases}
 use Rattle.std.proofs.lemmas.List.{length-append}
 use Rattle.std.proofs.lemmas.Bool.{or_cases, or_left, or_right, false≢true}
 use Rattle.first_come.specs.Arrivals.{Kept, arrived, has, keep, keep_all}
@@ -12,15 +13,8 @@ module _ {T : Type 0} where
   nth_append (x ∷ xs) ys zero h = refl
   nth_append (x ∷ xs) ys (suc i) h = nth_append xs ys i (omega arith)
 
-  pub nth_some : (xs : List T) (i : ℕ) (x : T) → slice_get xs i ≡ Some x → i < length xs
-  nth_some [] i x h = let z : ◌≡◌ {A = ℕ} 0 1 = cc in absurd (omega arith)
-  nth_some (y ∷ ys) zero x h = omega arith
-  nth_some (y ∷ ys) (suc i) x h = omega (arith, nth_some ys i x h)
-
   pub nth_none : (xs : List T) (i : ℕ) → slice_get xs i ≡ None → length xs ≤ i
-  nth_none [] i h = omega arith
-  nth_none (y ∷ ys) zero h = let z : ◌≡◌ {A = ℕ} 0 1 = cc in absurd (omega arith)
-  nth_none (y ∷ ys) (suc i) h = omega (arith, nth_none ys i h)
+  nth_none xs i h = grind (arith, slice_get_cases xs i)
 
   -- what the one lists, the other lists at the same place
   abbrev pub Front : List T → List T → Type 0
@@ -34,7 +28,7 @@ module _ {T : Type 0} where
 
 module _ {T : Type 0} (same : T → T → Bool) where
   pub nth_has : ((x : T) → same x x ≡ true) → (xs : List T) (i : ℕ) (x : T) → slice_get xs i ≡ Some x → has same xs x ≡ true
-  nth_has self [] i x h = let z : ◌≡◌ {A = ℕ} 0 1 = cc in absurd (omega arith)
+  nth_has self [] i x h = cc
   nth_has self (y ∷ ys) zero x h = let e : y ≡ x = cc in or_left (same y x) (has same ys x) (subst (λ z. same y z ≡ true) e (self y))
   nth_has self (y ∷ ys) (suc i) x h = or_right (same y x) (has same ys x) (nth_has self ys i x h)
 
@@ -46,7 +40,7 @@ module _ {T : Type 0} (same : T → T → Bool) where
   front_keep : (k : Kept T) (x : T) → Front (arrived k) (arrived (keep same k x))
   front_keep k x =
       put_cases k x (λ n. Front (arrived k) (arrived n)) (has same (arrived k) x) (λ _. front_none (arrived k))
-      (λ _ room. subst (Front (arrived k)) (sym (arrived_next k x room)) (front_append (arrived k) (x ∷ [])))
+      (λ _ room. rw (arrived_next k x room) (front_append (arrived k) (x ∷ [])))
       (λ _ _. front_none (arrived k))
 
   pub front_keep_all : (k : Kept T) (xs : List T) → Front (arrived k) (arrived (keep_all same k xs))

@@ -29,7 +29,7 @@ module _ {T : Type 0} where
       (λ _ room. record {
         long = length-set k.places k.len x;
         more = omega arith;
-        fits = λ _. rw length-set (omega (arith, ltb-true k.len (length k.places) room));
+        fits = λ _. rw length-set (omega (arith, ltb-true));
         idle = λ e. absurd (omega (arith, e));
       })
       (λ _ _. grows_none k)

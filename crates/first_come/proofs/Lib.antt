@@ -2,7 +2,6 @@ pub mod Sameness
 pub mod Arrivals
 mod Places
 pub mod Growth
-pub mod Pigeons
 pub mod Listings
 pub mod Fronts
 pub mod MarkLaws

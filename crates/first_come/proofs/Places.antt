@@ -1,19 +1,14 @@
 -- The place of an item is where std's `position` finds it.
-use Rattle.std.proofs.Common.{◌≡◌, ℕ, suc, ◌+◌, Bool, true, false, cond, nat_lt, ◌||◌, List, [], ◌∷◌, length, Some, None, sym, refl, ap, arith}
+use Rattle.std.proofs.Common.{◌≡◌, suc, ◌+◌, Bool, cond, nat_lt, List, [], ◌∷◌, length, Some, None, refl, ap, arith}
 use Rattle.std.specs.List.{position, position_or_len}
-use Rattle.std.proofs.lemmas.Bool.{lt-ltb}
 use Rattle.std.proofs.lemmas.Bool.Decides.{nat_tests}
 use Rattle.std.proofs.lemmas.List.Recursion.{is_position_or_len}
 use Rattle.first_come.specs.Arrivals.{has, place_of, found_at}
 
-next_within : (here behind : Bool) (p n : ℕ) → behind ≡ nat_lt p n → (here || behind) ≡ nat_lt (cond here 0 (suc p)) (suc n)
-next_within true behind p n e = sym (lt-ltb 0 (suc n) (omega arith))
-next_within false behind p n e = grind (arith, nat_tests)
-
 module _ {T : Type 0} (same : T → T → Bool) where
   has_within : (xs : List T) (x : T) → has same xs x ≡ nat_lt (place_of same xs x) (length xs)
   has_within [] x = refl
-  has_within (y ∷ ys) x = next_within (same y x) (has same ys x) (place_of same ys x) (length ys) (has_within ys x)
+  has_within (y ∷ ys) x = grind (arith, nat_tests, has_within ys x)
 
   place_is : (xs : List T) (x : T) → place_of same xs x ≡ position_or_len (λ y. same y x) xs
   place_is xs x =

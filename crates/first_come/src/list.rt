@@ -3,7 +3,8 @@ ghost use Rattle.std.specs.Prelude.{◌≤◌, length};
 
 pub mod methods;
 
-/// Items in order of arrival, no two of them the same, in the first `len` of the lent places.
+/// Items in order of arrival, no two of them the same, in the first `len` of the lent places. Whoever lends them gets them back, so
+/// that there is no `Vec`.
 #[derive(Drop)]
 pub struct FirstCome<'a, T> {
     places: &'a mut [T],

@@ -1,5 +1,5 @@
 -- What the tests of all numbers below a bound say.
-use Rattle.std.proofs.Common.{◌≡◌, ℕ, ◌<◌, Bool, true, false, Decides, sym, refl}
+use Rattle.std.proofs.Common.{◌≡◌, ℕ, ◌<◌, Bool, true, false, Decides, refl}
 use Rattle.std.proofs.lemmas.Bool.{false≢true, both_ways}
 use Rattle.std.proofs.lemmas.Bool.Decides.{Decides-below_and, Decides-below_or, same_from_decides}
 use Rattle.model.specs.Below.{all_below, any_below}
@@ -12,15 +12,6 @@ module _ (p : ℕ → Bool) (n : ℕ) where
   pub any_below_decides : Decides (any_below p n) ((k : ℕ) × (k < n) × (p k ≡ true))
   unfolding any_below
   any_below_decides = Decides-below_or p (λ k. p k ≡ true) (any_below p) (λ k. (λ e. e, λ e. e)) refl (λ _. refl) n
-
-  pub all_below_holds : ((k : ℕ) → k < n → p k ≡ true) → true ≡ all_below p n
-  all_below_holds h = sym (all_below_decides.1 h)
-
-  pub all_below_fails : (k : ℕ) → k < n → p k ≡ false → false ≡ all_below p n
-  all_below_fails k l e = same_from_decides false (all_below p n) ((λ t. absurd (false≢true t)), (λ h. absurd (both_ways (p k) e (h k l)))) all_below_decides
-
-  pub any_below_holds : (k : ℕ) → k < n → p k ≡ true → true ≡ any_below p n
-  any_below_holds k l e = sym (any_below_decides.1 (k, l, e))
 
   pub any_below_fails : ((k : ℕ) → k < n → p k ≡ false) → false ≡ any_below p n
   any_below_fails h = same_from_decides false (any_below p n) ((λ t. absurd (false≢true t)), (λ f. absurd (both_ways (p f.0) (h f.0 f.1) f.2))) any_below_decides

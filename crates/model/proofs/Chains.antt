@@ -33,12 +33,9 @@ module _ {X : Type 0} (p : ℕ → Bool) (q : X → Bool) (xs : List X) (d : X) 
   any_below_list : (n : ℕ) → length xs ≡ n → list_any q xs ≡ any_below p n
   any_below_list n e = sym (ap (list_any q) (take_all n xs (omega arith))) ∙ sym (any_to n (omega arith))
 
-zero_plus : (k : ℕ) → 0 + k ≡ k
-zero_plus k = omega arith
-
 -- over the numbers from 0
 pub all_below_each : (p : ℕ → Bool) (n : ℕ) → list_all p (range_with_len 0 n) ≡ all_below p n
-all_below_each p n = all_below_list p p (range_with_len 0 n) 0 (λ k h. ap p (sym (get_or-range_with_len 0 n k 0 (omega (arith, h, length-range_with_len 0 n)) ∙ zero_plus k))) n (length-range_with_len 0 n)
+all_below_each p n = all_below_list p p (range_with_len 0 n) 0 (λ k h. ap p (omega (arith, get_or-range_with_len 0 n k 0 (omega (arith, h, length-range_with_len 0 n))))) n (length-range_with_len 0 n)
 
 -- over the pairs of two lists
 module _ {X : Type 0} (f : X → X → Bool) (d : X) (xs ys : List X) (n : ℕ) (long : length xs ≡ n) (as_long : length ys ≡ n) where

@@ -1,7 +1,7 @@
 -- Containment is an order, and rows with the same entries are equal.
-use Rattle.std.proofs.Common.{◌≡◌, ℕ, ◌<◌, Bool, true, eqb, Some, None, Decides, Option, sym, refl, ap, subst, arith}
-use Rattle.std.proofs.lemmas.Bool.{eq-eqb, eqb-true, false≢true}
-use Rattle.std.proofs.lemmas.Bool.Decides.{nat_tests, same_from_decides}
+use Rattle.std.proofs.Common.{◌≡◌, ℕ, ◌<◌, Bool, true, eqb, Some, None, Decides, Option, refl, ap, arith}
+use Rattle.std.proofs.lemmas.Bool.{eq-eqb, eqb-true}
+use Rattle.std.proofs.lemmas.Bool.Decides.{Decides-like, nat_tests, same_from_decides}
 use Rattle.std.proofs.lemmas.Slice.Eq.{slice_eq-Decides}
 use Rattle.std.specs.Cmp.Lexicographic.{pointwise}
 use Rattle.std.specs.Option.{option_eq}
@@ -24,8 +24,8 @@ keeps_refl (Some v) = eq-eqb v v refl
 
 keeps_trans : (a b c : Option ℕ) → keeps a b ≡ true → keeps b c ≡ true → keeps a c ≡ true
 keeps_trans None b c p q = refl
-keeps_trans (Some v) None c p q = absurd (false≢true p)
-keeps_trans (Some v) (Some w) None p q = absurd (false≢true q)
+keeps_trans (Some v) None c p q = cc
+keeps_trans (Some v) (Some w) None p q = cc
 keeps_trans (Some v) (Some w) (Some x) p q = grind (arith, nat_tests)
 
 -- what `==` on the entries tells of the rows
@@ -38,11 +38,7 @@ option_decides (Some v) (Some w) = same_entry_decides (Some v) (Some w)
 pub told_same : (answer : Bool) (r t : Row) → answer ≡ pointwise (option_eq eqb) r.entries t.entries → answer ≡ same_row r t
 told_same answer r t told =
     let entries = slice_eq-Decides option_decides r.entries t.entries answer told in
-    same_from_decides answer (same_row r t) ((λ e. same_entries r t (entries.0 e)), λ e. entries.1 (ap (λ (x : Row). x.entries) e)) (same_row_decides r t)
-
--- an answer that is the test says whether the rows are equal
-pub told_exactly : {answer : Bool} (r t : Row) → answer ≡ same_row r t → Decides answer (r ≡ t)
-told_exactly r t is = subst (λ q. Decides q (r ≡ t)) (sym is) (same_row_decides r t)
+    same_from_decides answer (same_row r t) (Decides-like answer (same_entries r t) (ap (λ (x : Row). x.entries)) entries) (same_row_decides r t)
 
 pub contained_reflexive : ContainmentIsReflexive
 unfolding ContainmentIsReflexive
@@ -54,8 +50,8 @@ contained_transitive r s t p q = contained_from r t (λ i l. keeps_trans (at r i
 
 keeps_antisym : (a b : Option ℕ) → keeps a b ≡ true → keeps b a ≡ true → a ≡ b
 keeps_antisym None None p q = refl
-keeps_antisym None (Some w) p q = absurd (false≢true q)
-keeps_antisym (Some v) None p q = absurd (false≢true p)
+keeps_antisym None (Some w) p q = cc
+keeps_antisym (Some v) None p q = cc
 keeps_antisym (Some v) (Some w) p q = ap (λ n. Some n) (eqb-true v w q)
 
 pub contained_antisymmetric : ContainmentIsAntisymmetric

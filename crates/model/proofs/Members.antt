@@ -1,5 +1,5 @@
 -- What holds of the elements of a list.
-use Rattle.std.proofs.Common.{◌≡◌, ℕ, zero, suc, Bool, true, List, [], ◌∷◌, Some, subst, inl, inr, ⊎_elim, arith}
+use Rattle.std.proofs.Common.{◌≡◌, ℕ, zero, suc, Bool, true, List, [], ◌∷◌, Some, subst, inl, inr, ⊎_elim}
 use Rattle.std.proofs.lemmas.Bool.{and_parts}
 use Rattle.std.specs.List.{list_all, slice_get}
 use Rattle.model.specs.Members.{Among}
@@ -7,7 +7,7 @@ use Rattle.model.specs.Members.{Among}
 module _ {X : Type 0} where
   -- the element at a place is one of them
   pub nth_among : (xs : List X) (n : ℕ) (x : X) → slice_get xs n ≡ Some x → Among xs x
-  nth_among [] n x is = let z : ◌≡◌ {A = ℕ} 0 1 = cc in absurd (omega arith)
+  nth_among [] n x is = cc
   nth_among (y ∷ ys) zero x is = inl (cc)
   nth_among (y ∷ ys) (suc n) x is = inr (nth_among ys n x is)
 
@@ -17,7 +17,3 @@ module _ {X : Type 0} where
   all_among p (y ∷ ys) x h a =
       let parts = and_parts (p y) (list_all p ys) h in
       ⊎_elim (λ e. subst (λ z. p z ≡ true) e parts.0) (all_among p ys x parts.1) a
-
-  -- and so of the one at a place
-  pub all_nth : (p : X → Bool) (xs : List X) (n : ℕ) (x : X) → list_all p xs ≡ true → slice_get xs n ≡ Some x → p x ≡ true
-  all_nth p xs n x h is = all_among p xs x h (nth_among xs n x is)

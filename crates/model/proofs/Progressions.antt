@@ -1,12 +1,12 @@
 -- Moves keep containment, and take states to states.
 use Rattle.std.proofs.Common.{◌≡◌, ℕ, ◌<◌, ◌≤◌, true, false, List, length, is_some, Some, None, Option, sym, refl, ap, ◌∙◌, ⊎_elim, arith}
-use Rattle.std.proofs.lemmas.Bool.{and_from, and_parts, cases_lt, not-true, not_from_false, false≢true}
+use Rattle.std.proofs.lemmas.Bool.{and_from, and_parts, cases_lt, not-true, not_from_false}
 use Rattle.std.proofs.lemmas.Bool.Decides.{nat_tests}
 use Rattle.std.proofs.lemmas.List.{get_or_past}
 use Rattle.model.specs.declared.row.Row.{Row}
 use Rattle.model.specs.declared.moves.Move.{Move}
 use Rattle.model.specs.declared.variable.Variable.{Variable}
-use Rattle.model.specs.Rows.{at, keeps, differ, contained, disagree}
+use Rattle.model.specs.Rows.{at, keeps, differ, disagree}
 use Rattle.model.specs.Moves.{or_else, next_entry, applicable, progression, successor}
 use Rattle.model.specs.Limits.{size_at, entry_fits, row_fits, move_fits, complete, no_variable}
 use Rattle.model.specs.Records.{ModelRecord, state_of_model}
@@ -20,7 +20,7 @@ use Rattle.model.proofs.Containment.{contained_at, contained_from, keeps_refl}
 keeps_differ : (c a b : Option ℕ) → keeps a b ≡ true → differ c b ≡ false → differ c a ≡ false
 keeps_differ None a b p q = refl
 keeps_differ (Some u) None b p q = refl
-keeps_differ (Some u) (Some v) None p q = absurd (false≢true p)
+keeps_differ (Some u) (Some v) None p q = cc
 keeps_differ (Some u) (Some v) (Some w) p q = grind (arith, nat_tests)
 
 keeps_next : (e r t c : Option ℕ) → keeps r t ≡ true → differ c t ≡ false → keeps (or_else e (or_else r c)) (or_else e (or_else t c)) ≡ true
@@ -28,7 +28,7 @@ keeps_next (Some u) r t c p q = keeps_refl (Some u)
 keeps_next None None None c p q = keeps_refl c
 keeps_next None None (Some w) None p q = refl
 keeps_next None None (Some w) (Some u) p q = grind (arith, nat_tests)
-keeps_next None (Some v) None c p q = absurd (false≢true p)
+keeps_next None (Some v) None c p q = cc
 keeps_next None (Some v) (Some w) c p q = p
 
 -- where the conditions do not disagree, they differ nowhere
@@ -44,15 +44,12 @@ smaller_applicable m r t h a =
     (sym (any_below_fails (λ k. differ (at m.conditions k) (at r k)) 32
     (λ i l. keeps_differ (at m.conditions i) (at r i) (at t i) (contained_at r t h i l) (differ_nowhere m t a i l))))
 
-smaller_progression_contained : (m : Move) (r t : Row) → contained r t ≡ true → applicable m t ≡ true → contained (progression m r) (progression m t) ≡ true
-smaller_progression_contained m r t h a =
+pub smaller_progression : SmallerRowHasSmallerProgression
+unfolding SmallerRowHasSmallerProgression
+smaller_progression m r t h a =
     contained_from (progression m r) (progression m t)
     (λ i l. rw (at_row_of (next_entry m r) i l, at_row_of (next_entry m t) i l)
     (keeps_next (at m.effects i) (at r i) (at t i) (at m.conditions i) (contained_at r t h i l) (differ_nowhere m t a i l)))
-
-pub smaller_progression : SmallerRowHasSmallerProgression
-unfolding SmallerRowHasSmallerProgression
-smaller_progression = smaller_progression_contained
 
 -- a value fits no variable of size 0
 entry_fits_none : (e : Option ℕ) → entry_fits 0 e ≡ true → e ≡ None
@@ -73,7 +70,7 @@ module _ (vs : List Variable) where
 
 -- the next entry, where the entry t of the state is given
 next_given : (e t c : Option ℕ) → is_some t ≡ true → or_else e (or_else t c) ≡ or_else e t
-next_given e None c h = absurd (false≢true h)
+next_given e None c h = cc
 next_given e (Some v) c h = refl
 
 next_open : (e t c : Option ℕ) → c ≡ None → or_else e (or_else t c) ≡ or_else e t
@@ -105,7 +102,7 @@ module _ (vs : List Variable) (m : Move) (s : Row) (conditions : row_fits vs m.c
 
   -- a state gives no variable past the 32nd, so there is none
   within_32 : (i : ℕ) → is_some (at s i) ≡ true → i < 32
-  within_32 i given = ⊎_elim (λ (l : i < 32). l) (λ (past : 32 ≤ i). absurd (false≢true (ap is_some (sym (open_past s i past)) ∙ given))) (cases_lt i 32)
+  within_32 i given = grind (arith, open_past s i)
 
   progression_complete : complete vs (progression m s) ≡ true
   progression_complete =
@@ -120,12 +117,12 @@ state_progresses d m s fits state =
     and_from _ _ (progression_fits vs m s parts.0 parts.1 of_state.0 of_state.1) (progression_complete vs m s parts.0 parts.1 of_state.0 of_state.1)
 
 pub state_successor : ProgressionOfAStateIsItsSuccessor
-unfolding ProgressionOfAStateIsItsSuccessor
+unfolding ProgressionOfAStateIsItsSuccessor SmallerRowHasSmallerProgression
 state_successor d m r s fits state within a =
     let vs = d.variables in
     let parts = and_parts (row_fits vs m.conditions) (row_fits vs m.effects) fits in
     let of_state = and_parts (row_fits vs s) (complete vs s) state in (
       progression_is_successor vs m s parts.0 parts.1 of_state.0 of_state.1,
       state_progresses d m s fits state,
-      smaller_progression_contained m r s within a,
+      smaller_progression m r s within a,
     )

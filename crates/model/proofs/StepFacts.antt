@@ -1,5 +1,6 @@
 -- A step that the code carries out on a row or on the table is the step on the model's record.
-use Rattle.std.proofs.Common.{◌≡◌, ℕ, zero, suc, ◌-◌, Bool, true, false, cond, List, [], ◌∷◌, length, get_or, set, is_ok, Some, refl, ap, ◌∙◌}
+use Rattle.std.proofs.Common.{◌≡◌, ℕ, ◌-◌, Bool, true, false, cond, [], length, is_ok, Some, refl, ap, ◌∙◌}
+use Rattle.std.proofs.lemmas.List.{set-get_or}
 use Rattle.model.specs.declared.row.Row.{Row}
 use Rattle.model.specs.declared.moves.Move.{Move}
 use Rattle.model.specs.declared.in_hand.Part.{Part}
@@ -10,12 +11,6 @@ use Rattle.model.specs.Rows.{with_entry}
 use Rattle.model.specs.Tables.{begun, last_begun, with_last}
 use Rattle.model.specs.Records.{ModelRecord}
 use Rattle.model.specs.Writing.{with_moves, entered, part_of, with_part, move_entered, part_answer, enter_part, end_of, with_end, end_answer, enter_end}
-
--- what is put where it stands changes nothing
-set_same : (ms : List Move) (n : ℕ) (d : Move) → set ms n (get_or ms n d) ≡ ms
-set_same [] n d = refl
-set_same (m ∷ ms) zero d = refl
-set_same (m ∷ ms) (suc n) d = ap (λ l. m ∷ l) (set_same ms n d)
 
 same_part : (part : Part) (m : Move) → with_part part m (part_of part m) ≡ m
 same_part Conditions m = refl
@@ -34,7 +29,7 @@ pub part_step : (part : Part) (d : ModelRecord) (i v : ℕ) → with_moves d (wi
 part_step part d i v =
     let m = last_begun d.moves in
     done_or_not (is_ok (part_answer part d i v)) (λ row. with_moves d (with_last d.moves (with_part part m row))) (part_of part m) (with_entry (part_of part m) i (Some v)) d
-    (ap (with_moves d) (ap (with_last d.moves) (same_part part m) ∙ set_same d.moves (length d.moves - 1) (begun [])))
+    (ap (with_moves d) (ap (with_last d.moves) (same_part part m) ∙ set-get_or d.moves (length d.moves - 1) (begun [])))
 
 pub end_step : (end : End) (d : ModelRecord) (i v : ℕ) → with_end end d (entered d.variables (end_of end d) i v) ≡ enter_end end d i v
 end_step end d i v = done_or_not (is_ok (end_answer end d i v)) (with_end end d) (end_of end d) (with_entry (end_of end d) i (Some v)) d (same_end end d)

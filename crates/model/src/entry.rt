@@ -1,4 +1,4 @@
-//! An entry of a row: a value, or open.
+//! An entry of a row: a value, or open. Entries are matched, so that each case reads as its rule does.
 ghost use Rattle.std.specs.Prelude.{◌≡◌};
 ghost use Rattle.model.specs.Rows.{keeps, differ};
 

@@ -23,6 +23,7 @@ impl Move {
     }
 
     /// What is known of a position after the move, if the row was known of it before.
+    #[tactic(auto, using(crate::proofs::Progressions::smaller_applicable, crate::proofs::Progressions::smaller_progression, crate::proofs::Progressions::state_successor, crate::proofs::PlanStates::states_lead_to_states))]
     pub fn progression(&self, row: &Row) -> Row
         ensures answer { result ≡ progression self.now row.now }
         ensures applicable { SmallerRowKeepsMovesApplicable }

@@ -13,22 +13,10 @@ use Rattle.model.specs.Members.{Among}
 use Rattle.model.specs.Records.{ModelRecord, row_of_model}
 use Rattle.model.proofs.BelowFacts.{any_below_decides}
 use Rattle.model.proofs.Containment.{contained_at, contained_transitive}
-use Rattle.model.proofs.Members.{nth_among}
+use Rattle.model.proofs.Members.{nth_among, all_among}
 use Rattle.model.proofs.Progressions.{smaller_applicable, smaller_progression}
 use Rattle.detector.specs.Laws.{Lawful}
 use Rattle.one_row.specs.Standstill.{stays, all_stay, stands_still, one_row_dead}
-
-transitive : (r s t : Row) → contained r s ≡ true → contained s t ≡ true → contained r t ≡ true
-unfolding ContainmentIsTransitive
-transitive = contained_transitive
-
-still_applicable : (m : Move) (r t : Row) → contained r t ≡ true → applicable m t ≡ true → applicable m r ≡ true
-unfolding SmallerRowKeepsMovesApplicable
-still_applicable = smaller_applicable
-
-smaller_after : (m : Move) (r t : Row) → contained r t ≡ true → applicable m t ≡ true → contained (progression m r) (progression m t) ≡ true
-unfolding SmallerRowHasSmallerProgression
-smaller_after = smaller_progression
 
 -- entries that a third row has both do not differ
 agree_in : (a b e : Option ℕ) → keeps a e ≡ true → keeps b e ≡ true → differ a b ≡ false
@@ -36,13 +24,6 @@ agree_in None b e p q = λ i. false
 agree_in (Some v) None e p q = λ i. false
 agree_in (Some v) (Some w) None p q = absurd (false≢true p)
 agree_in (Some v) (Some w) (Some x) p q = grind (arith, nat_tests)
-
--- where all moves stay, each does
-each_stays : (r : Row) (ms : List Move) (m : Move) → all_stay ms r ≡ true → Among ms m → stays r m ≡ true
-each_stays r [] m all among = absurd among
-each_stays r (n ∷ ns) m all among =
-    let parts = and_parts (stays r n) (all_stay ns r) all in
-    ⊎_elim (λ e. subst (λ k. stays r k ≡ true) e parts.0) (each_stays r ns m parts.1) among
 
 module _ (d : ModelRecord) (r : Row) (apart : disagree r d.goal ≡ true) (stay : all_stay d.moves r ≡ true) where
   -- no state that contains the row contains the goal
@@ -53,20 +34,22 @@ module _ (d : ModelRecord) (r : Row) (apart : disagree r d.goal ≡ true) (stay 
 
   -- a move that is applicable to a state that contains the row leads to one that does
   kept_by : (m : Move) → Among d.moves m → (s : Row) → contained r s ≡ true → applicable m s ≡ true → contained r (progression m s) ≡ true
+  unfolding ContainmentIsTransitive SmallerRowKeepsMovesApplicable SmallerRowHasSmallerProgression
   kept_by m among s within can =
       ⊎_elim
-      (λ (never : _). absurd (both_ways (applicable m r) (not-true (applicable m r) never) (still_applicable m r s within can)))
-      (λ (stays_in : contained r (progression m r) ≡ true). transitive r (progression m r) (progression m s) stays_in (smaller_after m r s within can))
-      (or_cases _ (contained r (progression m r)) (each_stays r d.moves m stay among))
+      (λ (never : _). absurd (both_ways (applicable m r) (not-true (applicable m r) never) (smaller_applicable m r s within can)))
+      (λ (stays_in : contained r (progression m r) ≡ true). contained_transitive r (progression m r) (progression m s) stays_in (smaller_progression m r s within can))
+      (or_cases _ (contained r (progression m r)) (all_among (stays r) d.moves m stay among))
 
   kept_along : (ns : List ℕ) (s t : Row) → contained r s ≡ true → Leads d s ns t → contained r t ≡ true
   kept_along [] s t within same = subst (λ u. contained r u ≡ true) same within
   kept_along (n ∷ ns) s t within way = kept_along ns (progression way.0 s) t (kept_by way.0 (nth_among d.moves n way.0 way.1) s within way.2) way.3
 
 pub one_row_lawful : (d : ModelRecord) (r : Row) → stands_still d r ≡ true → Lawful d (one_row_dead d r)
+unfolding ContainmentIsTransitive
 one_row_lawful d r still =
     let parts = and_parts (disagree r d.goal) (all_stay d.moves r) still in
     record {
-      containing_rows_are_dead = λ s t dead fits inside. and_from (row_of_model d t) (contained r t) fits (transitive r s t (and_parts (row_of_model d s) (contained r s) dead).1 inside);
+      containing_rows_are_dead = λ s t dead fits inside. and_from (row_of_model d t) (contained r t) fits (contained_transitive r s t (and_parts (row_of_model d s) (contained r s) dead).1 inside);
       dead_states_have_no_plan = λ s state dead ns plan. no_goal d r parts.0 parts.1 plan.0 (kept_along d r parts.0 parts.1 ns s plan.0 (and_parts (row_of_model d s) (contained r s) dead).1 plan.1) plan.2;
     }

@@ -1,3 +1,2 @@
-pub mod FirstCommand
 pub mod CommandList
 pub mod WrittenOut

@@ -47,7 +47,7 @@ pub enum Command<'a> {
     Goal { variable: u8, value: u8 },
     /// `Z`: the model is sealed.
     Seal,
-    /// `D`: the detector, by its kind and three variables.
+    /// `D`: the detector, by its kind and three variables; bytes as they stand, for which of them are refused is not told here.
     Detector { kind: u8, variables: [u8; 3] },
     /// `R`: an entry of the row in hand.
     Entry { variable: u8, value: u8 },
@@ -63,7 +63,7 @@ pub enum Command<'a> {
     Probe,
     /// `W`: the book is written.
     Write,
-    /// No command can be read here.
+    /// No command can be read here. A case, and no `Result` around it, since every reading answers one thing with what follows.
     Fault(Fault),
 }
 
@@ -113,6 +113,7 @@ pub struct Placed<'a> {
 }
 
 /// The command that stands at a place of the sheet, or none where the sheet has ended.
+#[tactic(auto, using(crate::proofs::WrittenOut::loses_no_byte, crate::proofs::WrittenOut::reads_back))]
 pub fn command_at<'a>(sheet: &'a [u8], place: usize) -> Option<Placed<'a>>
     ensures answer { option_map item_of result ≡ item_found sheet.now place }
     ensures no_byte_lost { ReadingLosesNoByte }

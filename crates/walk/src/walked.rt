@@ -5,17 +5,24 @@ ghost use Rattle.walk.specs.SameStates.{same_state_equivalence};
 
 use model::row::Row;
 
-/// A state that a walk has come to, and where it came from.
+/// A state that a walk has come to, and the way to it.
 #[derive(Clone, Copy)]
 pub struct Walked {
     pub state: Row,
-    /// The place in the list of the state before it; 0 for the first state.
+    /// None for the state from which the walk began.
+    pub way: Option<Way>,
+}
+
+/// How a walk came to a state.
+#[derive(Clone, Copy, Debug, PartialEq, Eq)]
+pub struct Way {
+    /// The place in the list of the state before it. The list lies in lent memory, so that a reference would bind it.
     pub from: usize,
-    /// The number of the move that led here; 0 for the first state.
+    /// The number of the move that led here.
     pub by: u8,
 }
 
-/// Walked states are equal where their states are: the way to them does not count. A derive would name no definition.
+/// Walked states are equal where their states are. By hand, for a derived `==` would compare the ways too.
 impl PartialEq for Walked {
     ghost eq = { same_state };
 

@@ -8,7 +8,7 @@ ghost use Rattle.detectors.specs.CutMarking.{cut_marking};
 use first_come::mark::Mark;
 use model::entry::{entries_differ, entry_kept};
 
-/// A row, cut.
+/// A row, cut. Three entries with names, since an array of them would say by index which variable each is of.
 #[derive(Clone, Copy, Default, PartialEq, Eq)]
 pub(crate) struct Cut {
     pub(crate) first: Option<u8>,
@@ -31,7 +31,6 @@ fn digit(entry: Option<u8>) -> usize
 }
 
 /// The entry after a move: what it takes effect on, else what there is, else what it was on condition of.
-#[tactic(auto, using(crate::proofs::Entries::or_is_or_else))]
 fn next_entry(effect: Option<u8>, entry: Option<u8>, condition: Option<u8>) -> Option<u8>
     ensures { result ≡ or_else effect (or_else entry condition) }
 {
@@ -59,6 +58,7 @@ impl Mark for Cut {
         let first = digit(self.first);
         let second = digit(self.second);
         let third = digit(self.third);
+        // The number only behind the test, which bounds it.
         if first < 17 && second < 17 && third < 17 {
             Some((first * 17 + second) * 17 + third)
         } else {

@@ -22,6 +22,7 @@ use std::alloc::{AllocError, Global};
 impl Pattern {
     /// The pattern over the variables that the operands give: one to three of the model's, rising, whose sizes multiply to at
     /// most 512; behind them 255, which gives none. With other operands the model is given back.
+    #[tactic(auto, using(crate::proofs::PatternLaws::pattern_lawful, crate::proofs::PatternLaws::pattern_decides, crate::proofs::WorkedVerdicts::worked_pattern_verdicts))]
     pub fn over(
         heap: Global,
         model: Model,

@@ -1,5 +1,5 @@
 //! The operands that choose the variables of a pattern.
-ghost use Rattle.std.specs.Prelude.{◌≡◌, ◌≤◌, [], ◌∷◌, IfOk, slice_index};
+ghost use Rattle.std.specs.Prelude.{◌≡◌, ◌<◌, ◌≤◌, [], ◌∷◌, IfSome, IfOk, slice_index};
 ghost use Rattle.model.specs.Drafts.{recorded};
 ghost use Rattle.detectors.specs.Operands.{size_from, pattern_product, if_given, pattern_answer};
 ghost use Rattle.detectors.specs.PatternMeaning.{product_of_sizes};
@@ -12,10 +12,10 @@ use refusal::Refusal;
 pub(crate) const NONE: u8 = 0xff;
 
 /// The size of a variable of a pattern; none where it is below the lowest that it may be, or the model does not have it.
-fn size_from(model: &Model, lowest: usize, variable: u8) -> Option<u32>
-    ensures { result ≡ size_from (recorded model.now).variables lowest variable }
+fn size_from(model: &Model, lowest: usize, variable: usize) -> Option<u32>
+    ensures answer { result ≡ size_from (recorded model.now).variables lowest variable }
+    ensures small { IfSome result (λ size. size < 256) }
 {
-    let variable = usize::from(variable);
     if variable < lowest {
         None
     } else {
@@ -28,14 +28,15 @@ fn pattern_product(model: &Model, operands: [u8; 3]) -> Option<u32>
     ensures { result ≡ pattern_product (recorded model.now).variables (slice_index operands 0) (slice_index operands 1 ∷ slice_index operands 2 ∷ []) }
 {
     let [first, second, third] = operands;
+    let first = usize::from(first);
     let a = size_from(model, 0, first)?;
-    match (second, third) {
-        (NONE, NONE) => Some(a),
-        (NONE, _) => None,
-        (_, NONE) => Some(a * size_from(model, usize::from(first) + 1, second)?),
-        _ => {
-            let b = size_from(model, usize::from(first) + 1, second)?;
-            let c = size_from(model, usize::from(second) + 1, third)?;
+    match (given(second), given(third)) {
+        (None, None) => Some(a),
+        (None, Some(_)) => None,
+        (Some(second), None) => Some(a * size_from(model, first + 1, second)?),
+        (Some(second), Some(third)) => {
+            let b = size_from(model, first + 1, second)?;
+            let c = size_from(model, second + 1, third)?;
             Some(a * (b * c))
         }
     }

@@ -35,9 +35,11 @@ struct Walk<'a> {
 
 impl Walk<'_> {
     /// Takes the listed cuts in order, and lists what each leads to.
+    #[tactic(auto, using(crate::proofs::WalkSteps::walk_on, crate::proofs::WalkSteps::walk_end, crate::proofs::WalkSteps::walk_full))]
     fn go_on(&mut self, moves: &[CutMove])
         ensures { cuts self.new ≡ walk_from 512 0 (cuts self.old) moves.now }
     {
+        // By places, since the list grows as they are taken.
         for place in 0..PLACES {
             let Some(from) = self.cuts.get(place) else {
                 return;

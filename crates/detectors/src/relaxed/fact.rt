@@ -18,10 +18,6 @@ impl Mark for Fact {
     ghost own = { fact_marking };
 
     fn mark(&self) -> Option<usize> {
-        if self.value < 16 {
-            Some(16 * usize::from(self.variable) + usize::from(self.value))
-        } else {
-            None
-        }
+        (self.value < 16).then_some(16 * usize::from(self.variable) + usize::from(self.value))
     }
 }

@@ -17,6 +17,7 @@ pub(crate) fn goal_missed(model: &Model, row: &Row) -> bool
     ensures { result ≡ goal_missed (recorded model.now) row.now }
 {
     // A model has at most 32 variables with 16 values each: every fact finds a place, and has a mark.
+    // An array, since a verdict may not fail for want of memory.
     let mut places = [Fact::default(); 512];
     let mut reached = Reached {
         facts: MarkedList::new(&mut places),
@@ -34,6 +35,7 @@ struct Reached<'a> {
 
 impl Reached<'_> {
     /// Lists the facts that a row begins with.
+    #[tactic(auto, using(crate::proofs::FactsOfRows::listed_one, crate::proofs::FactsOfRows::listed_all))]
     fn list_row(&mut self, model: &Model, row: &Row)
         ensures { facts self.new ≡ keep_all same_fact (facts self.old) (row_facts (recorded model.now).variables row.now) }
     {
@@ -54,6 +56,7 @@ impl Reached<'_> {
     }
 
     /// Lists the facts of a variable with each value below its size.
+    #[tactic(auto, using(crate::proofs::FactsOfRows::listed_one, crate::proofs::FactsOfRows::listed_all))]
     fn list_values(&mut self, variable: u8, size: u8)
         ensures { facts self.new ≡ keep_all same_fact (facts self.old) (values_of variable size) }
     {
@@ -63,6 +66,7 @@ impl Reached<'_> {
     }
 
     /// Tries the moves, round after round, until a round adds no fact.
+    #[tactic(auto, using(crate::proofs::Rounds::closure_end))]
     fn saturate(&mut self, moves: &[Move])
         ensures { facts self.new ≡ closure (facts self.old) moves.now }
     {
@@ -94,6 +98,7 @@ impl Reached<'_> {
     }
 
     /// Lists the facts of a row's given entries.
+    #[tactic(auto, using(crate::proofs::FactsOfRows::listed_one, crate::proofs::FactsOfRows::listed_all))]
     fn list_given(&mut self, row: &Row)
         ensures { facts self.new ≡ keep_all same_fact (facts self.old) (given_facts row.now) }
     {
@@ -118,7 +123,7 @@ impl Reached<'_> {
         (0..32u8).all(|variable| self.entry_reached(variable, row.entry(usize::from(variable))))
     }
 
-    /// Whether the entry is open, or its fact is listed.
+    /// Whether the entry is open, or its fact is listed. By a `match`, for through `is_none_or` the proof does not close.
     fn entry_reached(&self, variable: u8, entry: Option<u8>) -> bool
         ensures { result ≡ entry_reached (arrived (facts self.now)) variable entry }
     {

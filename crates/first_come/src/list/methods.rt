@@ -73,6 +73,7 @@ impl<'a, T: Eq + Copy> FirstCome<'a, T> {
         ensures kept { contents self.new ≡ put_unless false (contents self.old) item }
         ensures lender { lender self.new ≡ lender self.old }
     {
+        // By the index, since behind `get_mut` a proof knows no more than the length.
         let place = self.len;
         if place == self.places.len() {
             return None;
@@ -111,6 +112,7 @@ impl<'a, T: Eq + Copy> FirstCome<'a, T> {
 fn set_mark(marks: &mut [bool], mark: Option<usize>)
     ensures { marks.new ≡ with_mark marks.old mark }
 {
+    // By the index, since behind `get_mut` a proof knows no more than the length.
     if let Some(mark) = mark
         && mark < marks.len()
     {

@@ -122,19 +122,17 @@ fn enter(variables: &[Variable], row: &mut Row, variable: usize, value: u8) -> R
     ensures answer { result ≡ entry_answer variables.now row.old variable value }
     ensures after { row.new ≡ entered variables.now row.old variable value }
 {
-    if variable >= variables.len() {
+    let Some(found) = variables.get(variable) else {
         return Err(Refusal::NoSuchVariable);
-    }
-    if value >= variables[variable].size {
+    };
+    if value >= found.size {
         return Err(Refusal::ValueTooLarge);
     }
-    match row.entry(variable) {
-        Some(_) => Err(Refusal::EntryTwice),
-        None => {
-            row.set(variable, value);
-            Ok(())
-        }
+    if row.gives(variable) {
+        return Err(Refusal::EntryTwice);
     }
+    row.set(variable, value);
+    Ok(())
 }
 
 /// Enters the value in one of the two rows of a move.
@@ -158,8 +156,5 @@ fn enter_in_move(
 fn entry_fits(size: u8, entry: Option<u8>) -> bool
     ensures { result ≡ entry_fits size entry }
 {
-    match entry {
-        Some(value) => value < size,
-        None => true,
-    }
+    entry.is_none_or(|value| value < size)
 }

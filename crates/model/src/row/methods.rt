@@ -49,12 +49,14 @@ impl Row {
     fn put(&mut self, number: usize, entry: Option<u8>)
         ensures { self.new ≡ with_entry self.old number entry }
     {
+        // By the index, since behind `get_mut` a proof knows no more than the length.
         if number < 32 {
             self.entries[number] = entry;
         }
     }
 
     /// Whether the other row has every entry that this one gives.
+    #[tactic(auto, using(crate::proofs::Containment::contained_reflexive, crate::proofs::Containment::contained_transitive, crate::proofs::Containment::contained_antisymmetric))]
     pub fn contained_in(&self, other: &Row) -> bool
         ensures answer { result ≡ contained self.now other.now }
         ensures reflexive { ContainmentIsReflexive }
@@ -84,6 +86,7 @@ impl PartialEq for Row {
 
     ghost laws = { same_row_laws };
 
+    #[tactic(auto, using(crate::specs::SameRows::same_row_decides))]
     fn eq(&self, other: &Row) -> bool
         ensures answer { result ≡ same_row self.now other.now }
         ensures exact { Decides result (self.now ≡ other.now) }

@@ -16,6 +16,7 @@ use model::sealed::Model;
 
 impl OneRow {
     /// The detector of the row, or the model back where a move leads away from the row or a plan might end in it.
+    #[tactic(auto, using(crate::proofs::BothLaws::one_row_lawful))]
     pub fn over(model: Model, row: Row) -> Result<OneRow, Model>
         ensures answer { making_told result ≡ making_answer (recorded model) row }
         ensures lawful { IfOk result (λ d. Lawful (one_row_model d) (one_row_dead (one_row_model d) (one_row d))) }

@@ -1,21 +1,16 @@
-use Rattle.std.proofs.Common.{sym, ap, ◌∙◌, leb-false, leb-true}
+use Rattle.std.proofs.Common.{List, ℕ, length, drop, ap, ◌∙◌, length-drop, arith}
 use Rattle.std.proofs.lemmas.List.{take_rest}
-use Rattle.sheet.specs.Reading.{reading}
-use Rattle.sheet.proofs.CommandList.{found_there, none_there, left_there}
-use Rattle.sheet.proofs.WrittenOut.{loses_no_byte, reads_back}
+use Rattle.std.proofs.lemmas.Grind.{common_steps}
+use Rattle.sheet.specs.Reading.{Told, reading}
+use Rattle.sheet.proofs.CommandList.{no_longer}
 use Rattle.sheet.proofs.command_at.Goals as goal
-
-pub returns-then-ended : goal.returns-then-ended
-returns-then-ended c = record { answer = none_there c.args.sheet.now c.args.place (leb-true _ _ (sym c.if-ended.ensures)); no_byte_lost = loses_no_byte; written_reads_back = reads_back }
 
 pub overflow_sub-next : goal.overflow_sub-next
 overflow_sub-next c =
     let sheet = c.args.sheet.now in
-    let p = c.args.place in
-    left_there sheet p _ (c.read.ensures ∙ ap reading (take_rest sheet p))
+    let place = c.args.place in
+    let left = ap (λ (r : Told × List ℕ). length r.1) (c.read.ensures ∙ ap reading (take_rest sheet place)) in
+    omega (arith, left, no_longer (drop place sheet), length-drop place sheet)
 
-pub returns : goal.returns
-returns c =
-    let sheet = c.args.sheet.now in
-    let p = c.args.place in
-    record { answer = found_there sheet p _ (c.read.ensures ∙ ap reading (take_rest sheet p)) (leb-false _ _ (sym c.if-ended.ensures)); no_byte_lost = loses_no_byte; written_reads_back = reads_back }
+pub returns-clause-answer : goal.returns-clause-answer
+returns-clause-answer c = grind (arith, common_steps, no_longer, take_rest)

@@ -5,7 +5,6 @@ use Rattle.std.proofs.lemmas.Iterator.{YieldsList-from_zip, YieldsList-from_slic
 use Rattle.std.proofs.lemmas.Iterator.Search.{all_from_yields_List}
 use Rattle.model.specs.Rows.{keeps}
 use Rattle.model.proofs.Chains.{all_below_pairs}
-use Rattle.model.proofs.Containment.{contained_reflexive, contained_transitive, contained_antisymmetric}
 use Rattle.model.proofs.row.Row.contained_in.Goals as goal
 
 pub returns-clause-answer : goal.returns-clause-answer
@@ -14,12 +13,3 @@ returns-clause-answer c =
     let t = c.args.other.now in
     let told : c.all.result ≡ list_all (λ p. keeps p.0 p.1) (zip r.entries t.entries) = all_from_yields_List (λ p. keeps p.0 p.1) c.all.new.self _ c.all.result c.all.ensures.ran (YieldsList-from_zip (YieldsList-from_slice r.entries cc) (YieldsList-from_slice t.entries cc)) (λ x b q k. search (rules, tests)) in
     told ∙ all_below_pairs keeps None r.entries t.entries 32 r.full t.full
-
-pub returns-clause-reflexive : goal.returns-clause-reflexive
-returns-clause-reflexive c = contained_reflexive
-
-pub returns-clause-transitive : goal.returns-clause-transitive
-returns-clause-transitive c = contained_transitive
-
-pub returns-clause-antisymmetric : goal.returns-clause-antisymmetric
-returns-clause-antisymmetric c = contained_antisymmetric
