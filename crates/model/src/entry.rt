@@ -1,6 +1,7 @@
 //! An entry of a row: a value, or open. Entries are matched, so that each case reads as its rule does.
 ghost use Rattle.std.specs.Prelude.{◌≡◌};
 ghost use Rattle.model.specs.Rows.{keeps, differ};
+ghost use Rattle.model.specs.Moves.{or_else};
 
 /// Whether the second entry is the first, if that is given.
 pub fn entry_kept(mine: Option<u8>, theirs: Option<u8>) -> bool
@@ -20,5 +21,15 @@ pub fn entries_differ(mine: Option<u8>, theirs: Option<u8>) -> bool
     match (mine, theirs) {
         (Some(value), Some(found)) => value != found,
         _ => false,
+    }
+}
+
+/// The entry behind a move: the effect if given, else the row's entry if given, else the condition if given, else open.
+pub fn next_entry(effect: Option<u8>, entry: Option<u8>, condition: Option<u8>) -> Option<u8>
+    ensures { result ≡ or_else effect (or_else entry condition) }
+{
+    match (effect, entry) {
+        (Some(value), _) | (None, Some(value)) => Some(value),
+        (None, None) => condition,
     }
 }

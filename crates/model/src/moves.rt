@@ -3,6 +3,7 @@ ghost use Rattle.std.specs.Prelude.{◌≡◌};
 ghost use Rattle.model.specs.Moves.{applicable, next_entry, progression};
 ghost use Rattle.model.specs.MoveLaws.{SmallerRowKeepsMovesApplicable, SmallerRowHasSmallerProgression, ProgressionOfAStateIsItsSuccessor, StatesLeadToStates};
 
+use crate::entry::next_entry;
 use crate::row::Row;
 use std::array;
 
@@ -36,16 +37,14 @@ impl Move {
         }
     }
 
-    /// The effect if given, else the row's entry if given, else the condition if given, else open.
+    /// The entry of a variable behind the move.
     fn next_entry(&self, row: &Row, variable: usize) -> Option<u8>
         ensures { result ≡ next_entry self.now row.now variable }
     {
-        match self.effects.entry(variable) {
-            Some(value) => Some(value),
-            None => match row.entry(variable) {
-                Some(value) => Some(value),
-                None => self.conditions.entry(variable),
-            },
-        }
+        next_entry(
+            self.effects.entry(variable),
+            row.entry(variable),
+            self.conditions.entry(variable),
+        )
     }
 }

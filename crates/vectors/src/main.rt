@@ -19,9 +19,11 @@ fn run(rt: &HostRuntime) -> anyhow::Result<()> {
     let mut differing = Vec::new(rt.alloc());
     for name in table.lines() {
         if !agrees(rt, name)? {
-            println!(rt; "{name} differs")?;
             differing.push(name)?;
         }
+    }
+    for name in &differing {
+        println!(rt; "{name} differs")?;
     }
     let sheets = table.lines().count();
     println!(rt; "{sheets} sheets, {} differ", differing.len())?;

@@ -1,12 +1,11 @@
 //! Rows cut to the variables of a pattern: the entries of the first, second and third, open where there is no such variable.
 ghost use Rattle.std.specs.Prelude.{◌≡◌};
-ghost use Rattle.model.specs.Moves.{or_else};
 ghost use Rattle.detectors.specs.Cuts.{contained_cut, applicable_cut, progression_cut};
 ghost use Rattle.detectors.specs.CutMarks.{digit_of, mark_of};
 ghost use Rattle.detectors.specs.CutMarking.{cut_marking};
 
 use first_come::mark::Mark;
-use model::entry::{entries_differ, entry_kept};
+use model::entry::{entries_differ, entry_kept, next_entry};
 
 /// A row, cut. Three entries with names, since an array of them would say by index which variable each is of.
 #[derive(Clone, Copy, Default, PartialEq, Eq)]
@@ -30,13 +29,6 @@ fn digit(entry: Option<u8>) -> usize
     entry.map_or(0, |value| usize::from(value) + 1)
 }
 
-/// The entry after a move: what it takes effect on, else what there is, else what it was on condition of.
-fn next_entry(effect: Option<u8>, entry: Option<u8>, condition: Option<u8>) -> Option<u8>
-    ensures { result ≡ or_else effect (or_else entry condition) }
-{
-    effect.or(entry.or(condition))
-}
-
 impl Cut {
     /// Whether the other cut has every entry that this one gives.
     pub(crate) fn contained_in(&self, other: &Cut) -> bool
@@ -58,12 +50,8 @@ impl Mark for Cut {
         let first = digit(self.first);
         let second = digit(self.second);
         let third = digit(self.third);
-        // The number only behind the test, which bounds it.
-        if first < 17 && second < 17 && third < 17 {
-            Some((first * 17 + second) * 17 + third)
-        } else {
-            None
-        }
+        let is_small = first < 17 && second < 17 && third < 17;
+        is_small.then(|| (first * 17 + second) * 17 + third)
     }
 }
 

@@ -27,7 +27,7 @@ fn entry(row: &Row, variable: Option<usize>) -> Option<u8>
 fn is_given(row: &Row, variable: Option<usize>) -> bool
     ensures { result ≡ given_at row.now variable }
 {
-    variable.is_none_or(|variable| row.entry(variable).is_some())
+    variable.is_none_or(|variable| row.gives(variable))
 }
 
 impl Variables {
@@ -35,7 +35,7 @@ impl Variables {
     pub(crate) fn given_by(&self, row: &Row) -> bool
         ensures { result ≡ gives row.now self.now }
     {
-        row.entry(self.first).is_some() && is_given(row, self.second) && is_given(row, self.third)
+        row.gives(self.first) && is_given(row, self.second) && is_given(row, self.third)
     }
 
     /// The row cut to them.

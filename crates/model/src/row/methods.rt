@@ -32,7 +32,7 @@ impl Row {
     }
 
     /// Whether it gives the variable.
-    pub(crate) fn gives(&self, variable: usize) -> bool
+    pub fn gives(&self, variable: usize) -> bool
         ensures { result ≡ is_some (at self.now variable) }
     {
         self.entry(variable).is_some()
