@@ -1,6 +1,7 @@
 pub mod Accepting
 pub mod ModelRun
 pub mod SheetOpens
+pub mod DetectorRun
 pub mod WentOn
 pub mod StandInOrder
 pub mod OpensInOrder

@@ -8,7 +8,7 @@ use Rattle.model.specs.Records.{ModelRecord, blank}
 use Rattle.desk.specs.Steps.{naming}
 use Rattle.desk.specs.ModelPart.{ModelEnd, stopped, sealed, model_part}
 use Rattle.detectors.specs.Choosing.{Detector, operands_fit}
-use Rattle.desk.specs.Choosing.{choice_answer, chosen_at, detector_part}
+use Rattle.desk.specs.DetectorPart.{choice_answer, chosen_at, detector_part}
 use Rattle.desk.specs.Openings.{Opened, behind_model, opened_by, opening}
 use Rattle.desk.specs.InOrder.{InOrder, Chooses, InOrderWithDetector, StandsInOrder}
 use Rattle.desk.proofs.StandInOrder.{StandsBy, stand, in_order}

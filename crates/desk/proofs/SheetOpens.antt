@@ -5,10 +5,13 @@ use Rattle.refusal.specs.declared.Refusal.TheVariants.{TooMany}
 use Rattle.sheet.specs.Commands.{commands}
 use Rattle.model.specs.Records.{blank}
 use Rattle.model.proofs.SealedModel.{model_sealed}
+use Rattle.detectors.specs.ShippedRows.{shipped_sealed}
+use Rattle.detectors.specs.Shipping.{EveryShippedDetectorIsLawful}
+use Rattle.detectors.proofs.ShippedLaws.{shipped_lawful}
 use Rattle.desk.specs.declared.opening.Opening.{Opening}
 use Rattle.desk.specs.declared.opening.Opening.TheVariants.{Unsealed, Unchosen, Ended, Orders}
 use Rattle.desk.specs.InOrder.{ModelIsSealed}
-use Rattle.desk.specs.Told.{opening_told}
+use Rattle.desk.specs.Told.{opening_told, DetectorIsLawful}
 use Rattle.desk.specs.Steps.{naming}
 use Rattle.desk.specs.ModelPart.{ModelEnd, model_part}
 use Rattle.desk.specs.Openings.{unsealed, opened_by, opening}
@@ -26,5 +29,13 @@ module _ (sheet : List ℕ) where
 pub every_opening_sealed : (o : Opening) → ModelIsSealed (opening_told o)
 every_opening_sealed (Unsealed stop) = tt
 every_opening_sealed (Unchosen m stop) = model_sealed m
-every_opening_sealed (Ended m choice) = model_sealed m
-every_opening_sealed (Orders m choice place) = model_sealed m
+every_opening_sealed (Ended s) = shipped_sealed s
+every_opening_sealed (Orders s place) = shipped_sealed s
+
+-- and so its detector keeps the two laws
+pub every_detector_lawful : (o : Opening) → DetectorIsLawful o
+unfolding EveryShippedDetectorIsLawful
+every_detector_lawful (Unsealed stop) = tt
+every_detector_lawful (Unchosen m stop) = tt
+every_detector_lawful (Ended s) = shipped_lawful s
+every_detector_lawful (Orders s place) = shipped_lawful s

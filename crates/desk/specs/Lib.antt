@@ -1,7 +1,7 @@
 pub mod Steps
 pub mod Stages
 pub mod ModelPart
-pub mod Choosing
+pub mod DetectorPart
 pub mod Lines
 pub mod Openings
 pub mod Told

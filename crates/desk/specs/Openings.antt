@@ -11,7 +11,7 @@ use Rattle.desk.specs.declared.lines.Line.TheVariants as line
 use Rattle.desk.specs.Steps.{naming}
 use Rattle.desk.specs.ModelPart.{ModelEnd, stopped, sealed, model_part}
 use Rattle.detectors.specs.Choosing.{Detector}
-use Rattle.desk.specs.Choosing.{detector_part}
+use Rattle.desk.specs.DetectorPart.{detector_part}
 use Rattle.desk.specs.Lines.{printed}
 
 pub data Opened : Type 0 where

@@ -1,38 +1,38 @@
 -- What the answers of the code stand for.
 use Rattle.std.specs.Prelude.{ℕ, List, Ok, Err, Result}
 use Rattle.sheet.specs.Commands.{commands_from}
-use Rattle.model.specs.declared.sealed.Model.{Model}
 use Rattle.model.specs.Drafts.{recorded}
-use Rattle.detectors.specs.declared.choosing.Choice.{Choice}
-use Rattle.detectors.specs.Choosing.{Detector, FitsModel, chosen_told}
+use Rattle.detector.specs.Laws.{Lawful}
+use Rattle.detectors.specs.declared.shipped.Shipped.{Shipped}
+use Rattle.detectors.specs.Shipping.{shipped_model, shipped_dead, detector_told, MeansWhatIsTold}
 use Rattle.desk.specs.declared.opening.Stop.{Stop}
 use Rattle.desk.specs.declared.opening.Opening.{Opening}
 use Rattle.desk.specs.declared.opening.Opening.TheVariants.{Unsealed, Unchosen, Ended, Orders}
-use Rattle.desk.specs.declared.followed.Followed.{Followed}
+use Rattle.desk.specs.declared.model_part.SealedAt.{SealedAt}
 use Rattle.desk.specs.ModelPart.{ModelEnd, stopped, sealed}
 use Rattle.desk.specs.Openings.{Opened, unsealed, unchosen, ended, orders}
 
--- a value, by what it stands for, and the place of what follows it
-abbrev pub followed_told : {T U : Type 0} → (T → U) → Followed T → U × ℕ
-followed_told f r = (f r.value, r.next)
-
-abbrev pub model_part_told : List ℕ → Result (Followed Model) Stop → ModelEnd
-model_part_told sheet (Ok s) = sealed (recorded s.value) (commands_from sheet s.next)
+abbrev pub model_part_told : List ℕ → Result SealedAt Stop → ModelEnd
+model_part_told sheet (Ok s) = sealed (recorded s.model) (commands_from sheet s.next)
 model_part_told sheet (Err stop) = stopped stop
-
-abbrev pub detector_part_told : Result (Followed Choice) Stop → Result (Detector × ℕ) Stop
-detector_part_told (Ok c) = Ok (followed_told chosen_told c)
-detector_part_told (Err stop) = Err stop
 
 abbrev pub opening_told : Opening → Opened
 opening_told (Unsealed stop) = unsealed stop
 opening_told (Unchosen m stop) = unchosen (recorded m) stop
-opening_told (Ended m choice) = ended (recorded m) (chosen_told choice)
-opening_told (Orders m choice place) = orders (recorded m) (chosen_told choice) place
+opening_told (Ended s) = ended (shipped_model s) (detector_told s)
+opening_told (Orders s place) = orders (shipped_model s) (detector_told s) place
 
--- where a detector is chosen, the choice fits the model: a pattern has the variables that its operands give, and they are few enough
-abbrev pub ChoiceFits : Opening → Type 0
-ChoiceFits (Unsealed stop) = Unit {0}
-ChoiceFits (Unchosen m stop) = Unit {0}
-ChoiceFits (Ended m choice) = FitsModel (recorded m).variables choice
-ChoiceFits (Orders m choice place) = FitsModel (recorded m).variables choice
+-- what holds of the detector of an opening, where one is made
+abbrev pub OfTheDetector : (Shipped → Type 0) → Opening → Type 0
+OfTheDetector P (Unsealed stop) = Unit {0}
+OfTheDetector P (Unchosen m stop) = Unit {0}
+OfTheDetector P (Ended s) = P s
+OfTheDetector P (Orders s place) = P s
+
+-- it has the dead set of the kind and the operands by which it is told
+abbrev pub DetectorMeansWhatIsTold : Opening → Type 0
+DetectorMeansWhatIsTold = OfTheDetector MeansWhatIsTold
+
+-- it keeps the two laws
+abbrev pub DetectorIsLawful : Opening → Type 0
+DetectorIsLawful = OfTheDetector (λ s. Lawful (shipped_model s) (shipped_dead s))

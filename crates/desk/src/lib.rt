@@ -1,8 +1,7 @@
-//! The desk: a sheet is carried out, command by command. So far up to the choice of a detector.
+//! The desk: a sheet is carried out, command by command. So far up to its detector.
 #![tactic(auto)]
 
-mod choosing;
-mod followed;
+mod detector_part;
 pub mod lines;
 mod model_part;
 pub mod opening;

@@ -1,23 +1,25 @@
-//! The opening of a sheet: its model and the choice of its detector.
+//! The opening of a sheet: its model and its detector.
 ghost use Rattle.std.specs.Prelude.{◌≡◌, length, IfOk, Some, Ok};
 ghost use Rattle.sheet.specs.Commands.{commands};
 ghost use Rattle.desk.specs.InOrder.{ModelIsSealed, StandsInOrder};
 ghost use Rattle.desk.specs.Lines.{printed};
 ghost use Rattle.desk.specs.ModelPart.{stop_at};
 ghost use Rattle.desk.specs.Openings.{behind_model, opened_by, model_line, stop_line, opening, opening_lines, printed_of};
-ghost use Rattle.desk.specs.Told.{ChoiceFits, followed_told, model_part_told, opening_told};
-ghost use Rattle.detectors.specs.Choosing.{FitsModel, chosen_told};
+ghost use Rattle.desk.specs.Told.{DetectorIsLawful, DetectorMeansWhatIsTold, OfTheDetector, model_part_told, opening_told};
+ghost use Rattle.detectors.specs.Shipping.{detector_told, shipped_model};
 ghost use Rattle.model.specs.Drafts.{recorded};
 
-use crate::choosing::read_detector;
-use crate::followed::Followed;
+use crate::detector_part::take;
 use crate::lines::Line;
-use crate::model_part::read_model;
+use crate::model_part::{SealedAt, read_model};
 use crate::stage::Stage;
-use detectors::choosing::Choice;
+use detector::Detector;
+use detectors::shipped::Shipped;
+use detectors::unmade::Unmade;
 use model::in_hand::NamingVariables;
 use model::sealed::Model;
 use refusal::Refusal;
+use sheet::command_at;
 use std::alloc::{AllocError, Global};
 use std::fmt;
 
@@ -52,30 +54,22 @@ pub enum Opening {
     /// It is refused before its model is sealed.
     Unsealed(Stop),
     /// Its model is sealed, and it is refused before a detector is chosen.
-    Unchosen {
-        model: Model,
-        stop: Stop,
-    },
-    /// It ends behind the choice of its detector.
-    Ended {
-        model: Model,
-        choice: Choice,
-    },
-    /// It goes on behind the choice of its detector, at the place `orders`.
-    Orders {
-        model: Model,
-        choice: Choice,
-        orders: usize,
-    },
+    Unchosen { model: Model, stop: Stop },
+    /// It ends behind its detector, which carries the model.
+    Ended { detector: Shipped },
+    /// It goes on behind its detector, at the place `orders`.
+    Orders { detector: Shipped, orders: usize },
 }
 
-/// Carries out a sheet up to the choice of its detector.
+/// Carries out a sheet up to its detector.
+#[tactic(auto, using(crate::proofs::SheetOpens::every_detector_lawful))]
 pub fn open_sheet(heap: Global, sheet: &[u8]) -> Result<Opening, AllocError>
     ensures outcome { IfOk result (λ o. opening_told o ≡ opening sheet.now) }
     ensures printed { IfOk result (λ o. printed (opening_lines (opening_told o)) ≡ printed_of sheet.now) }
     ensures sealed { IfOk result (λ o. ModelIsSealed (opening_told o)) }
     ensures in_order { IfOk result (λ o. StandsInOrder (commands sheet.now) (opening_told o)) }
-    ensures fits { IfOk result ChoiceFits }
+    ensures meaning { IfOk result DetectorMeansWhatIsTold }
+    ensures lawful { IfOk result DetectorIsLawful }
 {
     if sheet.len() > LONGEST {
         let stop = Stop {
@@ -86,39 +80,40 @@ pub fn open_sheet(heap: Global, sheet: &[u8]) -> Result<Opening, AllocError>
     }
     let blank = Stage::Variables(NamingVariables::new(heap)?);
     match read_model(blank, sheet) {
-        Ok(sealed) => Ok(open_behind(sealed, sheet)),
+        Ok(sealed) => open_behind(heap, sealed, sheet),
         Err(stop) => Ok(Opening::Unsealed(stop)),
     }
 }
 
-/// A sheet whose model is sealed, with what its detector part comes to.
-fn open_behind(sealed: Followed<Model>, sheet: &[u8]) -> Opening
-    ensures told { opening_told result ≡ opened_by (length sheet.now) (model_part_told sheet.now (Ok sealed)) }
-    ensures fits { ChoiceFits result }
+/// A sheet whose model is sealed, with what the command behind it comes to.
+fn open_behind(heap: Global, sealed: SealedAt, sheet: &[u8]) -> Result<Opening, AllocError>
+    ensures told { IfOk result (λ o. opening_told o ≡ opened_by (length sheet.now) (model_part_told sheet.now (Ok sealed))) }
+    ensures meaning { IfOk result DetectorMeansWhatIsTold }
 {
-    let Followed { value: model, next } = sealed;
-    match read_detector(&model, sheet, next) {
-        Ok(chosen) => open_chosen(model, chosen, sheet.len()),
-        Err(stop) => Opening::Unchosen { model, stop },
+    let SealedAt { model, next } = sealed;
+    let Some(found) = command_at(sheet, next) else {
+        let stop = Stop::at(sheet.len(), next, Refusal::SheetEnds);
+        return Ok(Opening::Unchosen { model, stop });
+    };
+    match take(heap, model, found.command)? {
+        Ok(detector) => Ok(open_with(detector, found.next, sheet.len())),
+        Err(Unmade { model, refusal }) => {
+            let stop = Stop::at(sheet.len(), found.place, refusal);
+            Ok(Opening::Unchosen { model, stop })
+        }
     }
 }
 
-/// A sheet whose detector is chosen, and which ends there or goes on.
-fn open_chosen(model: Model, chosen: Followed<Choice>, end: usize) -> Opening
-    requires { FitsModel (recorded model).variables chosen.value }
-    ensures told { opening_told result ≡ behind_model end (recorded model) (Ok (followed_told chosen_told chosen)) }
-    ensures fits { ChoiceFits result }
+/// A sheet whose detector is made, and which ends there or goes on.
+fn open_with(detector: Shipped, next: usize, end: usize) -> Opening
+    ensures told { opening_told result ≡ behind_model end (shipped_model detector) (Ok (detector_told detector, next)) }
+    ensures carried { OfTheDetector (λ s. s ≡ detector) result }
 {
-    let Followed {
-        value: choice,
-        next,
-    } = chosen;
     if next == end {
-        Opening::Ended { model, choice }
+        Opening::Ended { detector }
     } else {
         Opening::Orders {
-            model,
-            choice,
+            detector,
             orders: next,
         }
     }
@@ -158,8 +153,13 @@ impl fmt::Display for Opening {
                 Line::from(model),
                 Line::from(*stop)
             ),
-            Opening::Ended { model, .. } => writeln!(f, "{}\n{}", Line::from(model), Line::End),
-            Opening::Orders { model, .. } => writeln!(f, "{}", Line::from(model)),
+            Opening::Ended { detector } => writeln!(
+                f,
+                "{}\n{}",
+                Line::from(detector.model()),
+                Line::End
+            ),
+            Opening::Orders { detector, .. } => writeln!(f, "{}", Line::from(detector.model())),
         }
     }
 }

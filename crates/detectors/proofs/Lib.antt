@@ -12,3 +12,4 @@ pub mod CutReach
 pub mod PatternLaws
 pub mod WorkedVerdicts
 pub mod ShippedLaws
+pub mod MadeByKind

@@ -39,6 +39,15 @@ small_enough (Some product) = nat_le product 512
 abbrev pub if_given : ℕ → Option ℕ
 if_given v = cond (none_given v) None (Some v)
 
+-- the operand that gives a variable, or 255 for none
+abbrev pub operand_of : Option ℕ → ℕ
+operand_of None = 0xff
+operand_of (Some v) = v
+
+-- the operands that give the variables
+abbrev pub operands_of : Variables → List ℕ
+operands_of x = x.first ∷ operand_of x.second ∷ operand_of x.third ∷ []
+
 -- the variables that the operands give
 abbrev pub variables_of : ℕ → ℕ → ℕ → Variables
 variables_of first second third = record { first = first; second = if_given second; third = if_given third }

@@ -9,11 +9,10 @@ use Rattle.detectors.specs.declared.bare.Bare.{Bare as BareDetector}
 use Rattle.detectors.specs.declared.shipped.Shipped.{Shipped}
 use Rattle.detectors.specs.declared.shipped.Shipped.TheVariants.{Bare, Relaxed, Pattern}
 use Rattle.detectors.specs.declared.unmade.Unmade.{Unmade}
-use Rattle.detectors.specs.declared.choosing.Choice.{Choice}
-use Rattle.detectors.specs.Choosing.{Detector, operands_of, chosen_told, kind_answer}
+use Rattle.detectors.specs.Choosing.{Detector}
 use Rattle.detectors.specs.Closure.{relaxed_dead}
 use Rattle.detectors.specs.RelaxedMeaning.{relaxed_model}
-use Rattle.detectors.specs.Operands.{variables_of}
+use Rattle.detectors.specs.Operands.{operands_of, variables_of}
 use Rattle.detectors.specs.PatternMeaning.{pattern_dead}
 use Rattle.detectors.specs.Patterns.{pattern_model, pattern_variables}
 
@@ -74,16 +73,3 @@ MeansWhatIsTold s = (row : Row) → shipped_dead s row ≡ told_dead (shipped_mo
 abbrev pub MadeMeansWhatIsTold : Result Shipped Unmade → Type 0
 MadeMeansWhatIsTold (Ok s) = MeansWhatIsTold s
 MadeMeansWhatIsTold (Err u) = Unit {0}
-
--- What comes of making the detector of a kind with its operands, for the model d: the detector that is told by these, or the
--- refusal; the model carried, or given back; and the dead set.
-pub record Makes (d : ModelRecord) (kind first second third : ℕ) (made : Result Shipped Unmade) : Type 0 where
-  pub answer : made_told made ≡ kind_answer d.variables kind first second third
-  pub model : model_told made ≡ d
-  pub meaning : MadeMeansWhatIsTold made
-
--- What comes of a choice for the model d: the detector that is told as the choice is, with that model and its dead set.
-pub record MakesChosen (d : ModelRecord) (choice : Choice) (made : Shipped) : Type 0 where
-  pub told : detector_told made ≡ chosen_told choice
-  pub model : shipped_model made ≡ d
-  pub meaning : MeansWhatIsTold made

@@ -2,7 +2,7 @@
 #![tactic(auto)]
 
 pub mod bare;
-pub mod choosing;
+pub mod kind;
 pub mod making;
 pub mod pattern;
 pub mod relaxed;

@@ -1,12 +1,15 @@
 //! A detector is made by its kind and its operands.
-ghost use Rattle.std.specs.Prelude.{IfOk, slice_index};
+ghost use Rattle.std.specs.Prelude.{◌≡◌, [], ◌∷◌, IfOk, slice_index};
+ghost use Rattle.std.specs.List.{list_all};
 ghost use Rattle.model.specs.Drafts.{recorded};
-ghost use Rattle.detectors.specs.Choosing.{FitsModel};
-ghost use Rattle.detectors.specs.Shipping.{Makes, MakesChosen, EveryShippedDetectorIsLawful};
+ghost use Rattle.detectors.specs.Operands.{none_given};
+ghost use Rattle.detectors.specs.Choosing.{kind_number, kind_answer};
+ghost use Rattle.detectors.specs.Shipping.{made_told, model_told, MadeMeansWhatIsTold, EveryShippedDetectorIsLawful};
 
 use crate::bare::Bare;
-use crate::choosing::{Choice, choose};
+use crate::kind::Kind;
 use crate::pattern::Pattern;
+use crate::pattern::operands::NONE;
 use crate::relaxed::Relaxed;
 use crate::shipped::Shipped;
 use crate::unmade::Unmade;
@@ -17,30 +20,52 @@ use std::alloc::{AllocError, Global};
 /// Makes the detector of a kind: 0 is bare, 1 relaxed and 2 a pattern. The first two take no variable, so that each operand is
 /// 255; a pattern takes one to three. Where it is refused the model is given back. The kind is a number, since one that is unknown is
 /// refused here.
-#[tactic(auto, using(crate::proofs::ShippedLaws::shipped_lawful))]
+#[tactic(auto, using(crate::proofs::ShippedLaws::shipped_lawful, crate::proofs::MadeByKind::number_of_kind))]
 pub fn make(
     heap: Global,
     model: Model,
     kind: u8,
     operands: [u8; 3],
 ) -> Result<Result<Shipped, Unmade>, AllocError>
-    ensures makes { IfOk result (Makes (recorded model) kind (slice_index operands 0) (slice_index operands 1) (slice_index operands 2)) }
+    ensures answer { IfOk result (λ made. made_told made ≡ kind_answer (recorded model).variables kind (slice_index operands 0) (slice_index operands 1) (slice_index operands 2)) }
+    ensures model { IfOk result (λ made. model_told made ≡ recorded model) }
+    ensures meaning { IfOk result MadeMeansWhatIsTold }
     ensures lawful { EveryShippedDetectorIsLawful }
 {
-    match choose(&model, kind, operands) {
-        Ok(choice) => Ok(Ok(make_chosen(heap, model, choice)?)),
+    match Kind::try_from(kind) {
+        Ok(kind) => make_kind(heap, model, kind, operands),
         Err(refusal) => Ok(Err(Unmade { model, refusal })),
     }
 }
 
-/// The detector that was chosen for the model.
-fn make_chosen(heap: Global, model: Model, choice: Choice) -> Result<Shipped, AllocError>
-    requires { FitsModel (recorded model).variables choice }
-    ensures { IfOk result (MakesChosen (recorded model) choice) }
+/// Makes the detector of a kind that is known.
+#[tactic(auto, using(crate::proofs::MadeByKind::pattern_means))]
+fn make_kind(
+    heap: Global,
+    model: Model,
+    kind: Kind,
+    operands: [u8; 3],
+) -> Result<Result<Shipped, Unmade>, AllocError>
+    ensures answer { IfOk result (λ made. made_told made ≡ kind_answer (recorded model).variables (kind_number kind) (slice_index operands 0) (slice_index operands 1) (slice_index operands 2)) }
+    ensures model { IfOk result (λ made. model_told made ≡ recorded model) }
+    ensures meaning { IfOk result MadeMeansWhatIsTold }
 {
-    match choice {
-        Choice::Bare => Ok(Shipped::Bare(Bare::new(model))),
-        Choice::Relaxed => Ok(Shipped::Relaxed(Relaxed::new(model))),
-        Choice::Pattern(variables) => Ok(Shipped::Pattern(Pattern::of(heap, model, variables)?)),
+    if kind != Kind::Pattern && !gives_none(operands) {
+        return Ok(Err(Unmade {
+            model,
+            refusal: Refusal::WrongOperands,
+        }));
     }
+    match kind {
+        Kind::Bare => Ok(Ok(Shipped::Bare(Bare::new(model)))),
+        Kind::Relaxed => Ok(Ok(Shipped::Relaxed(Relaxed::new(model)))),
+        Kind::Pattern => Ok(Pattern::over(heap, model, operands)?.map(Shipped::Pattern)),
+    }
+}
+
+/// Whether no operand gives a variable.
+fn gives_none(operands: [u8; 3]) -> bool
+    ensures { result ≡ list_all none_given (slice_index operands 0 ∷ slice_index operands 1 ∷ slice_index operands 2 ∷ []) }
+{
+    operands == [NONE; 3]
 }

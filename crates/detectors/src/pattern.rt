@@ -11,7 +11,7 @@ use variables::Variables;
 mod cut;
 pub mod methods;
 pub(crate) mod operands;
-pub mod variables;
+mod variables;
 mod walking;
 
 /// A model, one to three of its variables, and the model's moves and goal cut to these once for all rows.

@@ -41,11 +41,7 @@ impl Pattern {
     }
 
     /// The pattern over variables whose sizes multiply to at most 512.
-    pub(crate) fn of(
-        heap: Global,
-        model: Model,
-        variables: Variables,
-    ) -> Result<Pattern, AllocError>
+    fn of(heap: Global, model: Model, variables: Variables) -> Result<Pattern, AllocError>
         requires { product_of_sizes (recorded model).variables variables ≤ 512 }
         ensures variables { IfOk result (λ p. pattern_variables p ≡ variables) }
         ensures model { IfOk result (λ p. pattern_model p ≡ recorded model) }
