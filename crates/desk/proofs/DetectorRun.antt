@@ -5,7 +5,7 @@ use Rattle.refusal.specs.declared.Refusal.TheVariants.{SheetEnds}
 use Rattle.sheet.specs.Commands.{Item, item_found, commands_from}
 use Rattle.sheet.proofs.CommandList.{commands_none, commands_some}
 use Rattle.model.specs.Records.{ModelRecord}
-use Rattle.detectors.specs.Choosing.{Detector}
+use Rattle.detectors.specs.Choosing.{Chosen}
 use Rattle.desk.specs.DetectorPart.{choice_answer, chosen_at, detector_part}
 use Rattle.desk.specs.ModelPart.{stop_at}
 use Rattle.desk.specs.Openings.{Opened, unchosen, behind_model}
@@ -19,7 +19,7 @@ module _ (sheet : List ℕ) (place : ℕ) (d : ModelRecord) where
   opened_none is = sym (ap (λ items. behind_model (length sheet) d (detector_part (length sheet) d.variables items)) (commands_none sheet place is))
 
   -- e is the model of what came of the command, which is r
-  pub opened_some : (i : Item) → Some i ≡ item_found sheet place → (e : ModelRecord) → e ≡ d → (r : Result Detector Refusal) → r ≡ choice_answer d.variables i.said → behind_model (length sheet) e (chosen_at (length sheet) i r) ≡ opened
+  pub opened_some : (i : Item) → Some i ≡ item_found sheet place → (e : ModelRecord) → e ≡ d → (r : Result Chosen Refusal) → r ≡ choice_answer d.variables i.said → behind_model (length sheet) e (chosen_at (length sheet) i r) ≡ opened
   opened_some i is e same r said =
       (λ j. behind_model (length sheet) (same j) (chosen_at (length sheet) i (said j)))
       ∙ sym (ap (λ items. behind_model (length sheet) d (detector_part (length sheet) d.variables items)) (commands_some sheet place i is))

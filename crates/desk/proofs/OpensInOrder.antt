@@ -7,32 +7,32 @@ use Rattle.model.specs.declared.variable.Variable.{Variable}
 use Rattle.model.specs.Records.{ModelRecord, blank}
 use Rattle.desk.specs.Steps.{naming}
 use Rattle.desk.specs.ModelPart.{ModelEnd, stopped, sealed, model_part}
-use Rattle.detectors.specs.Choosing.{Detector, operands_fit}
+use Rattle.detectors.specs.Choosing.{Chosen, operands_fit}
 use Rattle.desk.specs.DetectorPart.{choice_answer, chosen_at, detector_part}
 use Rattle.desk.specs.Openings.{Opened, behind_model, opened_by, opening}
 use Rattle.desk.specs.InOrder.{InOrder, Chooses, InOrderWithDetector, StandsInOrder}
 use Rattle.desk.proofs.StandInOrder.{StandsBy, stand, in_order}
 
 -- a detector that was chosen
-abbrev Chosen : Item → Result Detector Refusal → Type 0
-Chosen i (Ok detector) = Chooses i detector
-Chosen i (Err r) = Unit {0}
+abbrev ChosenBy : Item → Result Chosen Refusal → Type 0
+ChosenBy i (Ok detector) = Chooses i detector
+ChosenBy i (Err r) = Unit {0}
 
-chooses : (vs : List Variable) (i : Item) → Chosen i (choice_answer vs i.said)
+chooses : (vs : List Variable) (i : Item) → ChosenBy i (choice_answer vs i.said)
 chooses vs i =
     let kind = get_or i.said.1 0 0 in
     let first = get_or i.said.1 1 0 in
     let others = get_or i.said.1 2 0 ∷ get_or i.said.1 3 0 ∷ [] in
-    cond_both (eqb i.said.0 2) _ _ (Chosen i) (λ _. tt) (λ _.
-    cond_both (eqb i.said.0 1) _ _ (Chosen i) (λ _. tt) (λ _.
-    cond_both (eqb i.said.0 0x44) _ _ (Chosen i)
-    (λ is. cond_both (ltb 2 kind) _ _ (Chosen i) (λ _. tt) (λ _.
-    cond_both (operands_fit vs kind first others) (Ok (kind, first ∷ others)) _ (Chosen i) (λ _. record { by_a_detector_command = eqb-true _ _ is; kind_and_operands = refl }) (λ _. tt)))
+    cond_both (eqb i.said.0 2) _ _ (ChosenBy i) (λ _. tt) (λ _.
+    cond_both (eqb i.said.0 1) _ _ (ChosenBy i) (λ _. tt) (λ _.
+    cond_both (eqb i.said.0 0x44) _ _ (ChosenBy i)
+    (λ is. cond_both (ltb 2 kind) _ _ (ChosenBy i) (λ _. tt) (λ _.
+    cond_both (operands_fit vs kind first others) (Ok (kind, first ∷ others)) _ (ChosenBy i) (λ _. record { by_a_detector_command = eqb-true _ _ is; kind_and_operands = refl }) (λ _. tt)))
     (λ _. tt)))
 
 -- behind a model d, whose commands stand before `rest`
 module _ (end : ℕ) (items : List Item) (d : ModelRecord) where
-  behind_choice : (i : Item) (is : List Item) → InOrder d items (i ∷ is) → (c : Result Detector Refusal) → Chosen i c → StandsInOrder items (behind_model end d (chosen_at end i c))
+  behind_choice : (i : Item) (is : List Item) → InOrder d items (i ∷ is) → (c : Result Chosen Refusal) → ChosenBy i c → StandsInOrder items (behind_model end d (chosen_at end i c))
   behind_choice i is o (Err r) chosen = (i ∷ is, o)
   behind_choice i is o (Ok detector) chosen =
       let both : InOrderWithDetector d detector items = record { choice = i; rest = is; model_first = o; then_the_detector = chosen } in

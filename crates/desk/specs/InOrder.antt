@@ -4,7 +4,7 @@ use Rattle.sheet.specs.Commands.{Item}
 use Rattle.std.specs.List.{list_all}
 use Rattle.model.specs.Records.{ModelRecord, blank, Sealed}
 use Rattle.model.specs.Writing.{with_variable, with_move, with_condition, with_effect, with_start, with_goal}
-use Rattle.detectors.specs.Choosing.{Detector}
+use Rattle.detectors.specs.Choosing.{Chosen}
 use Rattle.desk.specs.Openings.{Opened, unsealed, unchosen, ended, orders}
 
 abbrev pub one_of : List ℕ → ℕ → Bool
@@ -50,12 +50,12 @@ pub record InOrder (d : ModelRecord) (items rest : List Item) : Type 0 where
   pub model_as_written : d ≡ all_written_by (variables ++ (moves ++ ends)) blank
 
 -- the command i is a D whose operands are this kind and these variables
-pub record Chooses (i : Item) (detector : Detector) : Type 0 where
+pub record Chooses (i : Item) (detector : Chosen) : Type 0 where
   pub by_a_detector_command : i.said.0 ≡ 0x44
   pub kind_and_operands : detector ≡ (slice_index i.said.1 0, slice_index i.said.1 1 ∷ slice_index i.said.1 2 ∷ slice_index i.said.1 3 ∷ [])
 
 -- the commands of a model, and behind them the D that chooses the detector
-pub record InOrderWithDetector (d : ModelRecord) (detector : Detector) (items : List Item) : Type 0 where
+pub record InOrderWithDetector (d : ModelRecord) (detector : Chosen) (items : List Item) : Type 0 where
   pub choice : Item
   pub rest : List Item
   pub model_first : InOrder d items (choice ∷ rest)

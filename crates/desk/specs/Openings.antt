@@ -10,7 +10,7 @@ use Rattle.desk.specs.declared.lines.Line.TheVariants.{Model, End}
 use Rattle.desk.specs.declared.lines.Line.TheVariants as line
 use Rattle.desk.specs.Steps.{naming}
 use Rattle.desk.specs.ModelPart.{ModelEnd, stopped, sealed, model_part}
-use Rattle.detectors.specs.Choosing.{Detector}
+use Rattle.detectors.specs.Choosing.{Chosen}
 use Rattle.desk.specs.DetectorPart.{detector_part}
 use Rattle.desk.specs.Lines.{printed}
 
@@ -20,12 +20,12 @@ pub data Opened : Type 0 where
   -- refused behind the sealed model, before a detector is chosen
   unchosen : ModelRecord → Stop → Opened
   -- the sheet ends behind its detector
-  ended : ModelRecord → Detector → Opened
+  ended : ModelRecord → Chosen → Opened
   -- the sheet goes on behind its detector, at a place
-  orders : ModelRecord → Detector → ℕ → Opened
+  orders : ModelRecord → Chosen → ℕ → Opened
 
 -- a sheet of `end` bytes with the model d, behind which the detector is chosen or refused
-abbrev pub behind_model : ℕ → ModelRecord → Result (Detector × ℕ) Stop → Opened
+abbrev pub behind_model : ℕ → ModelRecord → Result (Chosen × ℕ) Stop → Opened
 behind_model end d (Ok c) = cond (c.1 == end) (ended d c.0) (orders d c.0 c.1)
 behind_model end d (Err stop) = unchosen d stop
 

@@ -11,7 +11,7 @@ use Rattle.model.specs.Limits.{size_at, row_fits}
 use Rattle.detectors.specs.declared.pattern.cut.Cut.{Cut}
 use Rattle.detectors.specs.declared.pattern.variables.Variables.{Variables}
 use Rattle.detectors.specs.Cuts.{entry_of, cut_of, cut_move, progression_cut}
-use Rattle.detectors.specs.PatternMeaning.{size_or_one, product_of_sizes, given_at, gives}
+use Rattle.detectors.specs.PatternMeaning.{size_or_one, product_of_sizes, given_if_any, gives}
 use Rattle.detectors.specs.CutSameness.{from_entries}
 use Rattle.detectors.specs.Digits.{digits}
 use Rattle.detectors.proofs.FactsOfRows.{given_fits}
@@ -37,7 +37,7 @@ module _ (vs : List Variable) where
   value_own None e f h k q = h ∙ sym k
   value_own (Some v) e f h k q = h.1 ∙ ap (λ n. Some n) (sym (ap value h.1) ∙ q ∙ ap value k.1) ∙ sym k.1
 
-  inside_given : (row : Row) → row_fits vs row ≡ true → (o : Option ℕ) → given_at row o ≡ true → Inside o (entry_of row o)
+  inside_given : (row : Row) → row_fits vs row ≡ true → (o : Option ℕ) → given_if_any row o ≡ true → Inside o (entry_of row o)
   inside_given row fits None g = refl
   inside_given row fits (Some v) g = let y = given_value (at row v) g in (y.0, y.1, given_fits vs row fits v y.0 y.1)
 
@@ -78,6 +78,6 @@ module _ (vs : List Variable) where
 
     pub cut_may : (row : Row) → row_fits vs row ≡ true → gives row x ≡ true → May (cut_of x row)
     cut_may row fits g =
-        let p = and_parts (given_at row (Some x.first)) _ g in
-        let q = and_parts (given_at row x.second) (given_at row x.third) p.1 in
+        let p = and_parts (given_if_any row (Some x.first)) _ g in
+        let q = and_parts (given_if_any row x.second) (given_if_any row x.third) p.1 in
         (inside_given row fits (Some x.first) p.0, inside_given row fits x.second q.0, inside_given row fits x.third q.1)

@@ -10,7 +10,7 @@ use Rattle.model.proofs.Containment.{contained_at}
 use Rattle.model.proofs.Progressions.{differ_nowhere}
 use Rattle.detectors.specs.declared.pattern.variables.Variables.{Variables}
 use Rattle.detectors.specs.Cuts.{entry_of, cut_of, cut_move, contained_cut, disagree_cut, applicable_cut, progression_cut}
-use Rattle.detectors.specs.PatternMeaning.{given_at, gives}
+use Rattle.detectors.specs.PatternMeaning.{given_if_any, gives}
 use Rattle.detectors.specs.CutSameness.{from_entries}
 
 -- of a variable that there may not be, and that may be past every row's last
@@ -47,15 +47,15 @@ keeps_given None b k h = absurd (false≢true h)
 keeps_given (Some v) None k h = absurd (false≢true k)
 keeps_given (Some v) (Some w) k h = ap (λ n. Some n) (sym (eqb-true w v k))
 
-same_of : (r t : Row) → contained r t ≡ true → (o : Option ℕ) → given_at r o ≡ true → (entry_of r o ≡ entry_of t o) × (given_at t o ≡ true)
+same_of : (r t : Row) → contained r t ≡ true → (o : Option ℕ) → given_if_any r o ≡ true → (entry_of r o ≡ entry_of t o) × (given_if_any t o ≡ true)
 same_of r t h None g = (refl, refl)
 same_of r t h (Some v) g = let e = keeps_given (at r v) (at t v) (kept_of r t h (Some v)) g in (e, subst (λ q. is_some q ≡ true) e g)
 
 -- so where the row gives the variables, both have the same cut
 pub same_cuts : (x : Variables) (r t : Row) → contained r t ≡ true → gives r x ≡ true → (cut_of x r ≡ cut_of x t) × (gives t x ≡ true)
 same_cuts x r t h g =
-    let p = and_parts (given_at r (Some x.first)) _ g in
-    let q = and_parts (given_at r x.second) (given_at r x.third) p.1 in
+    let p = and_parts (given_if_any r (Some x.first)) _ g in
+    let q = and_parts (given_if_any r x.second) (given_if_any r x.third) p.1 in
     let a = same_of r t h (Some x.first) p.0 in
     let b = same_of r t h x.second q.0 in
     let c = same_of r t h x.third q.1 in

@@ -8,7 +8,7 @@ use Rattle.detectors.specs.declared.pattern.Pattern.{Pattern as PatternDetector}
 use Rattle.detectors.specs.declared.pattern.variables.Variables.{Variables}
 use Rattle.detectors.specs.declared.shipped.Shipped.TheVariants.{Pattern}
 use Rattle.detectors.specs.declared.kind.Kind.{Kind}
-use Rattle.detectors.specs.Choosing.{Detector, kind_of, kind_number, kind_answer}
+use Rattle.detectors.specs.Choosing.{Chosen, kind_of, kind_number, kind_answer}
 use Rattle.detectors.specs.Operands.{none_given, pattern_product, small_enough, if_given, operand_of, operands_of, variables_of, pattern_answer}
 use Rattle.detectors.specs.PatternMeaning.{pattern_dead}
 use Rattle.detectors.specs.Patterns.{pattern_model, pattern_variables}
@@ -26,7 +26,7 @@ number_of_kind n kind =
     cond_both (n == 2) _ _ (λ r. Ok kind ≡ r → kind_number kind ≡ n) (λ two is. search (is, eqb-true n 2 two)) (λ _ never. cc)))
 
 -- the detector that is made of a pattern, or the refusal of its operands
-abbrev pub over_told : Result Variables Refusal → Result Detector Refusal
+abbrev pub over_told : Result Variables Refusal → Result Chosen Refusal
 over_told (Ok x) = Ok (2, operands_of x)
 over_told (Err r) = Err r
 
@@ -40,7 +40,7 @@ module _ (vs : List Variable) (first second third : ℕ) where
   answered x false is = let z : ◌≡◌ {A = ℕ} 0 1 = cc in absurd (omega arith)
 
   -- and is refused elsewhere
-  refused : (r : Refusal) (small : Bool) → Err r ≡ cond {A = Result Variables Refusal} small (Ok (variables_of first second third)) (Err WrongOperands) → Err r ≡ cond {A = Result Detector Refusal} small (Ok (2, first ∷ second ∷ third ∷ [])) (Err WrongOperands)
+  refused : (r : Refusal) (small : Bool) → Err r ≡ cond {A = Result Variables Refusal} small (Ok (variables_of first second third)) (Err WrongOperands) → Err r ≡ cond {A = Result Chosen Refusal} small (Ok (2, first ∷ second ∷ third ∷ [])) (Err WrongOperands)
   refused r true is = let z : ◌≡◌ {A = ℕ} 0 1 = cc in absurd (omega arith)
   refused r false is = cc
 
@@ -51,8 +51,8 @@ module _ (vs : List Variable) (first second third : ℕ) where
   pub pattern_answered : (over : Result Variables Refusal) → over ≡ pattern_answer vs first second third → over_told over ≡ kind_answer vs 2 first second third
   pattern_answered (Ok x) is =
       let chosen = answered x fits is in
-      let taken : ◌≡◌ {A = Result Detector Refusal} (Ok (2, first ∷ second ∷ third ∷ [])) (kind_answer vs 2 first second third) = rw chosen.0 refl in
-      ap {B = Result Detector Refusal} (λ (l : List ℕ). Ok (2, l)) (same_operands x chosen.1) ∙ taken
+      let taken : ◌≡◌ {A = Result Chosen Refusal} (Ok (2, first ∷ second ∷ third ∷ [])) (kind_answer vs 2 first second third) = rw chosen.0 refl in
+      ap {B = Result Chosen Refusal} (λ (l : List ℕ). Ok (2, l)) (same_operands x chosen.1) ∙ taken
   pattern_answered (Err r) is = refused r fits is
 
   pub pattern_means : (p : PatternDetector) → Ok (pattern_variables p) ≡ pattern_answer vs first second third → MeansWhatIsTold (Pattern p)

@@ -1,5 +1,5 @@
 -- What a pattern decides, and that it keeps both laws.
-use Rattle.std.proofs.Common.{◌≡◌, ℕ, ◌≤◌, Bool, true, List, [], ◌∷◌, map, Decides, sym, subst}
+use Rattle.std.proofs.Common.{◌≡◌, ℕ, ◌≤◌, Bool, true, List, [], ◌∷◌, map, sym, subst}
 use Rattle.std.proofs.lemmas.Bool.{and_parts, and_from}
 use Rattle.model.specs.declared.row.Row.{Row}
 use Rattle.model.specs.Rows.{contained}
@@ -12,7 +12,6 @@ use Rattle.detectors.specs.declared.pattern.cut.Cut.{Cut}
 use Rattle.detectors.specs.declared.pattern.variables.Variables.{Variables}
 use Rattle.detectors.specs.Cuts.{cut_of, cut_move}
 use Rattle.detectors.specs.CutWalk.{cut_off}
-use Rattle.detectors.specs.ReachedCuts.{NoCutRowContainsTheGoal}
 use Rattle.detectors.specs.PatternMeaning.{product_of_sizes, gives, pattern_dead, PatternDecides}
 use Rattle.detectors.proofs.CutLaws.{cut_progression, cut_applicable, cut_contained, same_cuts}
 use Rattle.detectors.proofs.CutRows.{CutReached, first_reached, onward_reached, goal_not_reached}
@@ -32,10 +31,12 @@ module _ (d : ModelRecord) (x : Variables) where
   dead_from : (row : Row) → row_of_model d row ≡ true → gives row x ≡ true → off (cut_of x row) ≡ true → pattern_dead d x row ≡ true
   dead_from row fits given none = and_from (row_of_model d row) _ fits (and_from (gives row x) _ given none)
 
-  decides : (row : Row) → Sealed d → product_of_sizes d.variables x ≤ 512 → row_of_model d row ≡ true → gives row x ≡ true → Decides (pattern_dead d x row) (NoCutRowContainsTheGoal d x row)
-  decides row ok small fits given =
-      let walk = cut_off_decides d ok x small row fits given in
-      ((λ dead. walk.0 (dead_parts row dead).2), (λ none. dead_from row fits given (walk.1 none)))
+  pub pattern_decides : Sealed d → product_of_sizes d.variables x ≤ 512 → PatternDecides d x
+  unfolding PatternDecides
+  pattern_decides ok small row = (
+    (λ dead. let parts = dead_parts row dead in (parts.0, parts.1, (cut_off_decides d ok x small row parts.0 parts.1).0 parts.2)),
+    (λ none. dead_from row none.0 none.1 ((cut_off_decides d ok x small row none.0 none.1).1 none.2)),
+  )
 
   -- the cuts of the states along a plan are reached
   reached_along : (row : Row) (ns : List ℕ) (s t : Row) → Leads d s ns t → CutReached x d row (cut_of x s) → CutReached x d row (cut_of x t)
@@ -53,14 +54,11 @@ module _ (d : ModelRecord) (x : Variables) where
       dead_from t fits same.1 (subst (λ s. off s ≡ true) same.0 parts.2)
 
   pub pattern_lawful : Sealed d → product_of_sizes d.variables x ≤ 512 → Lawful d (pattern_dead d x)
+  unfolding PatternDecides
   pattern_lawful ok small = record {
     containing_rows_are_dead = containing_dead;
     dead_states_have_no_plan = λ s _ dead ns plan.
         let parts = dead_parts s dead in
-        goal_not_reached x d s ((decides s ok small parts.0 parts.1).0 dead) (cut_of x plan.0)
+        goal_not_reached x d s ((pattern_decides ok small s).0 dead).2 (cut_of x plan.0)
         (reached_along s ns s plan.0 plan.1 (first_reached x d s)) (cut_contained x d.goal plan.0 plan.2);
   }
-
-pub pattern_decides : PatternDecides
-unfolding PatternDecides
-pattern_decides = decides

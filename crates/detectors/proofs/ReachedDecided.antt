@@ -1,5 +1,5 @@
 -- The facts listed in the end are those reached.
-use Rattle.std.proofs.Common.{◌≡◌, ℕ, zero, suc, ◌<◌, true, List, [], ◌∷◌, Some, Decides, sym, refl, ◌∙◌, subst, inl, inr, ⊎_elim, arith}
+use Rattle.std.proofs.Common.{◌≡◌, ℕ, zero, suc, ◌<◌, true, ◌&&◌, List, [], ◌∷◌, Some, Decides, sym, refl, ◌∙◌, subst, inl, inr, ⊎_elim, arith}
 use Rattle.std.proofs.lemmas.List.{length-replicate}
 use Rattle.std.proofs.lemmas.Bool.{cond_both, and_parts, and_from, not-true, not_from_false, false_from_ne_true, both_ways, false≢true}
 use Rattle.first_come.specs.Arrivals.{Kept, arrived, has, Distinct, keep, keep_all}
@@ -138,10 +138,10 @@ module _ (d : ModelRecord) (row : Row) where
           (λ all. some.3 (listed_reached (fact_of some.0 some.1) (all_reached_each (arrived final) d.goal all some.0 some.1 some.2))))),
     )
 
-pub relaxed_decides : RelaxedDecides
+pub relaxed_decides : (d : ModelRecord) → Sealed d → RelaxedDecides d
 unfolding RelaxedDecides
-relaxed_decides d sealed row fits =
-    let r = missed_decides d row sealed fits in (
-      (λ dead. r.0 (and_parts (row_of_model d row) (goal_missed d row) dead).1),
-      (λ some. and_from (row_of_model d row) (goal_missed d row) fits (r.1 some)),
+relaxed_decides d sealed row =
+    let parts = λ (dead : row_of_model d row && goal_missed d row ≡ true). and_parts (row_of_model d row) (goal_missed d row) dead in (
+      (λ dead. ((parts dead).0, (missed_decides d row sealed (parts dead).0).0 (parts dead).1)),
+      (λ some. and_from (row_of_model d row) (goal_missed d row) some.0 ((missed_decides d row sealed some.0).1 some.1)),
     )

@@ -16,7 +16,7 @@ use Rattle.model.proofs.Members.{nth_among, all_among}
 use Rattle.model.proofs.Progressions.{differ_nowhere, state_progresses}
 use Rattle.model.proofs.RowFacts.{at_row_of}
 use Rattle.detector.specs.Laws.{Lawful}
-use Rattle.detectors.specs.Closure.{goal_missed, relaxed_dead}
+use Rattle.detectors.specs.Closure.{relaxed_dead}
 use Rattle.detectors.specs.ReachedFacts.{agrees, Reached, at_first, added, RelaxedDecides}
 use Rattle.detectors.proofs.CutLaws.{keeps_given}
 use Rattle.detectors.proofs.FactsOfRows.{given_below, given_fits}
@@ -86,11 +86,9 @@ module _ (d : ModelRecord) (sealed : Sealed d) where
   unfolding RelaxedDecides
   relaxed_lawful = record {
     containing_rows_are_dead = λ r t dead fits within.
-        let row = (and_parts (row_of_model d r) (goal_missed d r) dead).0 in
-        let some = (relaxed_decides d sealed r row).0 dead in
-        (relaxed_decides d sealed t fits).1 (some.0, some.1, some.2, λ reached. some.3 (reached_from_smaller r t within some.0 some.1 reached));
+        let some = ((relaxed_decides d sealed r).0 dead).1 in
+        (relaxed_decides d sealed t).1 (fits, (some.0, some.1, some.2, λ reached. some.3 (reached_from_smaller r t within some.0 some.1 reached)));
     dead_states_have_no_plan = λ s state dead ns plan.
-        let row = (and_parts (row_of_model d s) (complete d.variables s) state).0 in
-        let some = (relaxed_decides d sealed s row).0 dead in
+        let some = ((relaxed_decides d sealed s).0 dead).1 in
         some.3 (goal_reached s state ns plan some.0 some.1 some.2);
   }

@@ -22,15 +22,15 @@ kind_number Relaxed = 1
 kind_number Pattern = 2
 
 -- a detector's kind and its three operands
-abbrev pub Detector : Type 0
-Detector = ℕ × List ℕ
+abbrev pub Chosen : Type 0
+Chosen = ℕ × List ℕ
 
 -- the bare and the relaxed detector take no variable, a pattern takes one to three
 abbrev pub operands_fit : List Variable → ℕ → ℕ → List ℕ → Bool
 operands_fit vs kind first rest = cond (kind == 2) (small_enough (pattern_product vs first rest)) (list_all none_given (first ∷ rest))
 
 -- the detector that is chosen, or why none is: kinds above 2 are refused, and then operands that do not fit
-abbrev pub kind_answer : List Variable → ℕ → ℕ → ℕ → ℕ → Result Detector Refusal
+abbrev pub kind_answer : List Variable → ℕ → ℕ → ℕ → ℕ → Result Chosen Refusal
 kind_answer vs kind first second third =
-    cond {A = Result Detector Refusal} (nat_lt 2 kind) (Err UnknownKind)
-    (cond {A = Result Detector Refusal} (operands_fit vs kind first (second ∷ third ∷ [])) (Ok (kind, first ∷ second ∷ third ∷ [])) (Err WrongOperands))
+    cond {A = Result Chosen Refusal} (nat_lt 2 kind) (Err UnknownKind)
+    (cond {A = Result Chosen Refusal} (operands_fit vs kind first (second ∷ third ∷ [])) (Ok (kind, first ∷ second ∷ third ∷ [])) (Err WrongOperands))

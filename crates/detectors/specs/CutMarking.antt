@@ -8,7 +8,7 @@ use Rattle.std.proofs.lemmas.Option.{cond_some}
 use Rattle.first_come.specs.Marks.{Marking}
 use Rattle.detectors.specs.declared.pattern.cut.Cut.{Cut}
 use Rattle.detectors.specs.Cuts.{same_cut}
-use Rattle.detectors.specs.CutMarks.{digit_of, code, mark_of}
+use Rattle.detectors.specs.CutMarks.{digit_of, code, cut_mark}
 use Rattle.detectors.specs.CutSameness.{from_entries, cut_self, cut_equal}
 use Rattle.detectors.specs.Digits.{digits}
 
@@ -16,7 +16,7 @@ use Rattle.detectors.specs.Digits.{digits}
 abbrev Marked : Cut → ℕ → Type 0
 Marked s c = (code s ≡ c) × (digit_of s.first < 17) × (digit_of s.second < 17) × (digit_of s.third < 17)
 
-marked : (s : Cut) (c : ℕ) → mark_of s ≡ Some c → Marked s c
+marked : (s : Cut) (c : ℕ) → cut_mark s ≡ Some c → Marked s c
 marked s c is =
     let parts = cond_some (nat_lt (digit_of s.first) 17 && (nat_lt (digit_of s.second) 17 && nat_lt (digit_of s.third) 17)) (code s) c is in
     let a = and_parts (nat_lt (digit_of s.first) 17) _ parts.0 in
@@ -30,7 +30,7 @@ digit_own None (Some w) h = absurd (suc-ne-zero w (sym (h ∙ add-one w)))
 digit_own (Some v) None h = absurd (suc-ne-zero v (sym (add-one v) ∙ h))
 digit_own (Some v) (Some w) h = ap (λ n. Some n) (add_right_cancel 1 h)
 
-mark_own : (s t : Cut) (c : ℕ) → mark_of s ≡ Some c → mark_of t ≡ Some c → s ≡ t
+mark_own : (s t : Cut) (c : ℕ) → cut_mark s ≡ Some c → cut_mark t ≡ Some c → s ≡ t
 mark_own s t c p q =
     let a = marked s c p in
     let b = marked t c q in
@@ -38,8 +38,8 @@ mark_own s t c p q =
     let high = digits (digit_of s.first) (digit_of s.second) (digit_of t.first) (digit_of t.second) 17 a.2 b.2 low.0 in
     from_entries s t (digit_own s.first t.first high.0) (digit_own s.second t.second high.1) (digit_own s.third t.third low.1)
 
-pub cut_marking : Marking same_cut mark_of
+pub cut_marking : Marking same_cut cut_mark
 cut_marking = record {
-  alike = λ s t h. ap mark_of (cut_equal s t h);
+  alike = λ s t h. ap cut_mark (cut_equal s t h);
   own = λ s t c p q. subst (λ u. same_cut s u ≡ true) (mark_own s t c p q) (cut_self s);
 }

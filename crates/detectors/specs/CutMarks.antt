@@ -12,5 +12,5 @@ abbrev pub code : Cut → ℕ
 code t = (digit_of t.first * 17 + digit_of t.second) * 17 + digit_of t.third
 
 -- none where a digit is not one of base 17
-abbrev pub mark_of : Cut → Option ℕ
-mark_of t = cond (nat_lt (digit_of t.first) 17 && (nat_lt (digit_of t.second) 17 && nat_lt (digit_of t.third) 17)) (Some (code t)) None
+abbrev pub cut_mark : Cut → Option ℕ
+cut_mark t = cond (nat_lt (digit_of t.first) 17 && (nat_lt (digit_of t.second) 17 && nat_lt (digit_of t.third) 17)) (Some (code t)) None

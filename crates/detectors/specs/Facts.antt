@@ -21,8 +21,8 @@ abbrev pub fact_number : Fact → ℕ
 fact_number f = 16 * f.variable + f.value
 
 -- its mark in a table, if its value has a number among those of its variable
-abbrev pub mark_of : Fact → Option ℕ
-mark_of f = cond (nat_lt f.value 16) (Some (fact_number f)) None
+abbrev pub fact_mark : Fact → Option ℕ
+fact_mark f = cond (nat_lt f.value 16) (Some (fact_number f)) None
 
 -- the facts that f gives at n numbers, from i on
 unfoldable pub facts_from : (ℕ → List Fact) → ℕ → ℕ → List Fact

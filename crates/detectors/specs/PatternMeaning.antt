@@ -1,10 +1,10 @@
 -- The rows that a pattern calls dead.
-use Rattle.std.specs.Prelude.{◌≡◌, ℕ, ◌*◌, ◌≤◌, Bool, true, ◌&&◌, List, map, is_some, Some, None, Decides, Option}
+use Rattle.std.specs.Prelude.{◌≡◌, ℕ, ◌*◌, Bool, true, ◌&&◌, List, map, is_some, Some, None, Decides, Option}
 use Rattle.model.specs.declared.row.Row.{Row}
 use Rattle.model.specs.declared.variable.Variable.{Variable}
 use Rattle.model.specs.Rows.{at}
 use Rattle.model.specs.Limits.{size_at}
-use Rattle.model.specs.Records.{ModelRecord, row_of_model, Sealed}
+use Rattle.model.specs.Records.{ModelRecord, row_of_model}
 use Rattle.detectors.specs.declared.pattern.variables.Variables.{Variables}
 use Rattle.detectors.specs.Cuts.{cut_of, cut_move}
 use Rattle.detectors.specs.CutWalk.{cut_off}
@@ -19,22 +19,19 @@ abbrev pub product_of_sizes : List Variable → Variables → ℕ
 product_of_sizes vs x = size_at vs x.first * (size_or_one vs x.second * size_or_one vs x.third)
 
 -- the row gives the variable, if there is one
-abbrev pub given_at : Row → Option ℕ → Bool
-given_at row None = true
-given_at row (Some v) = is_some (at row v)
+abbrev pub given_if_any : Row → Option ℕ → Bool
+given_if_any row None = true
+given_if_any row (Some v) = is_some (at row v)
 
 -- the row leaves none of the variables open
 abbrev pub gives : Row → Variables → Bool
-gives row x = is_some (at row x.first) && (given_at row x.second && given_at row x.third)
+gives row x = is_some (at row x.first) && (given_if_any row x.second && given_if_any row x.third)
 
 -- a row of the model that gives the variables is dead if none of the cuts reached from its own contains the cut goal
 abbrev pub pattern_dead : ModelRecord → Variables → Row → Bool
 pattern_dead d x row = row_of_model d row && (gives row x && cut_off (map (cut_move x) d.moves) (cut_of x d.goal) (cut_of x row))
 
--- For a sealed model, variables of few values together, and a row of the model that gives them: the row is dead exactly if no cut
--- row that is reached contains the cut goal.
-unfoldable pub PatternDecides : Type 0
-PatternDecides =
-    (d : ModelRecord) (x : Variables) (row : Row)
-    → Sealed d → product_of_sizes d.variables x ≤ 512 → row_of_model d row ≡ true → gives row x ≡ true
-    → Decides (pattern_dead d x row) (NoCutRowContainsTheGoal d x row)
+-- What the dead set of a pattern says of every row: dead exactly if it is a row of the model that gives the variables, and no cut row
+-- that is reached contains the cut goal.
+unfoldable pub PatternDecides : ModelRecord → Variables → Type 0
+PatternDecides d x = (row : Row) → Decides (pattern_dead d x row) ((row_of_model d row ≡ true) × (gives row x ≡ true) × NoCutRowContainsTheGoal d x row)

@@ -7,7 +7,7 @@ use Rattle.detector.specs.Laws.{Lawful}
 use Rattle.detectors.specs.declared.unmade.Unmade.{Unmade}
 use Rattle.detectors.specs.declared.pattern.Pattern.{Pattern}
 use Rattle.detectors.specs.declared.pattern.variables.Variables.{Variables}
-use Rattle.detectors.specs.PatternMeaning.{pattern_dead}
+use Rattle.detectors.specs.PatternMeaning.{pattern_dead, PatternDecides}
 
 abbrev pub pattern_model : Pattern → ModelRecord
 pattern_model p = recorded p.model
@@ -29,3 +29,8 @@ carried_or_back (Err u) = recorded u.model
 abbrev pub MadeLawful : Result Pattern Unmade → Type 0
 MadeLawful (Ok p) = Lawful (pattern_model p) (pattern_dead (pattern_model p) (pattern_variables p))
 MadeLawful (Err u) = Unit {0}
+
+-- and its dead set is what is said of patterns
+abbrev pub MadeDecides : Result Pattern Unmade → Type 0
+MadeDecides (Ok p) = PatternDecides (pattern_model p) (pattern_variables p)
+MadeDecides (Err u) = Unit {0}

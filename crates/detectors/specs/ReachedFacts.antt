@@ -4,7 +4,7 @@ use Rattle.model.specs.declared.row.Row.{Row}
 use Rattle.model.specs.declared.moves.Move.{Move}
 use Rattle.model.specs.Limits.{size_at}
 use Rattle.model.specs.Members.{Among}
-use Rattle.model.specs.Records.{ModelRecord, Sealed, row_of_model}
+use Rattle.model.specs.Records.{ModelRecord, row_of_model}
 use Rattle.model.specs.Rows.{at}
 use Rattle.detectors.specs.Closure.{relaxed_dead}
 
@@ -23,6 +23,6 @@ pub data Reached (d : ModelRecord) (row : Row) : ℕ → ℕ → Type 0 where
 abbrev pub SomeGoalFactNotReached : ModelRecord → Row → Type 0
 SomeGoalFactNotReached d row = (v : ℕ) × (x : ℕ) × (at d.goal v ≡ Some x) × (Reached d row v x → ⊥)
 
--- a row of a sealed model is dead exactly if some goal fact is not reached from it
-unfoldable pub RelaxedDecides : Type 0
-RelaxedDecides = (d : ModelRecord) → Sealed d → (row : Row) → row_of_model d row ≡ true → Decides (relaxed_dead d row) (SomeGoalFactNotReached d row)
+-- what the relaxed dead set says of every row: dead exactly if it is a row of the model from which some goal fact is not reached
+unfoldable pub RelaxedDecides : ModelRecord → Type 0
+RelaxedDecides d = (row : Row) → Decides (relaxed_dead d row) ((row_of_model d row ≡ true) × SomeGoalFactNotReached d row)

@@ -9,7 +9,7 @@ use Rattle.detectors.specs.declared.bare.Bare.{Bare as BareDetector}
 use Rattle.detectors.specs.declared.shipped.Shipped.{Shipped}
 use Rattle.detectors.specs.declared.shipped.Shipped.TheVariants.{Bare, Relaxed, Pattern}
 use Rattle.detectors.specs.declared.unmade.Unmade.{Unmade}
-use Rattle.detectors.specs.Choosing.{Detector}
+use Rattle.detectors.specs.Choosing.{Chosen}
 use Rattle.detectors.specs.Closure.{relaxed_dead}
 use Rattle.detectors.specs.RelaxedMeaning.{relaxed_model}
 use Rattle.detectors.specs.Operands.{operands_of, variables_of}
@@ -41,7 +41,7 @@ unfoldable pub EveryShippedDetectorIsLawful : Type 0
 EveryShippedDetectorIsLawful = (s : Shipped) → Lawful (shipped_model s) (shipped_dead s)
 
 -- the kind of a detector and its operands
-abbrev pub detector_told : Shipped → Detector
+abbrev pub detector_told : Shipped → Chosen
 detector_told (Bare detector) = (0, 0xff ∷ 0xff ∷ 0xff ∷ [])
 detector_told (Relaxed detector) = (1, 0xff ∷ 0xff ∷ 0xff ∷ [])
 detector_told (Pattern detector) = (2, operands_of (pattern_variables detector))
@@ -52,7 +52,7 @@ kind_dead d kind first second third row =
     cond (kind == 0) (bare_dead d row) (cond (kind == 1) (relaxed_dead d row) (pattern_dead d (variables_of first second third) row))
 
 -- what came of making a detector
-abbrev pub made_told : Result Shipped Unmade → Result Detector Refusal
+abbrev pub made_told : Result Shipped Unmade → Result Chosen Refusal
 made_told (Ok s) = Ok (detector_told s)
 made_told (Err u) = Err u.refusal
 
@@ -62,7 +62,7 @@ model_told (Ok s) = shipped_model s
 model_told (Err u) = recorded u.model
 
 -- the dead set of a detector that is told by its kind and operands
-abbrev pub told_dead : ModelRecord → Detector → Row → Bool
+abbrev pub told_dead : ModelRecord → Chosen → Row → Bool
 told_dead d detector row = kind_dead d detector.0 (slice_index detector.1 0) (slice_index detector.1 1) (slice_index detector.1 2) row
 
 -- the detector has the dead set of the kind and the operands by which it is told

@@ -30,7 +30,7 @@ impl Relaxed {
     pub fn new(model: Model) -> Relaxed
         ensures model { relaxed_model result ≡ recorded model }
         ensures lawful { Lawful (relaxed_model result) (relaxed_dead (relaxed_model result)) }
-        ensures decides { RelaxedDecides }
+        ensures decides { RelaxedDecides (relaxed_model result) }
         ensures worked { WorkedRelaxedVerdicts }
     {
         Relaxed { model }

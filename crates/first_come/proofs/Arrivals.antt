@@ -29,12 +29,11 @@ module _ {T : Type 0} (same : T → T → Bool) where
       let apart = or_parts (same y x) (has same ys x) h in
       (has_push ys x y ∙ or_from (has same ys y) (same x y) d.0 (laws.symm x y ∙ apart.0), distinct_push laws ys x d.1 apart.1)
 
+  -- an item that is not listed, put in the next place
+  pub distinct_next : IsEquivalence same → (k : Kept T) (x : T) → Distinct same (arrived k) → has same (arrived k) x ≡ false → has_room k ≡ true → Distinct same (arrived (with_next k x))
+  distinct_next laws k x d new room = rw (arrived_next k x room) (distinct_push laws (arrived k) x d new)
+
   -- where an item is listed, the listed items stay apart
   pub distinct_keep : IsEquivalence same → (k : Kept T) (x : T) → Distinct same (arrived k) → Distinct same (arrived (keep same k x))
   distinct_keep laws k x d =
-      put_cases k x (λ n. Distinct same (arrived n)) (has same (arrived k) x) (λ _. d)
-      (λ new room. rw (arrived_next k x room) (distinct_push laws (arrived k) x d new)) (λ _ _. d)
-
-  -- the same of what the code keeps
-  pub distinct_after : IsEquivalence same → (k after : Kept T) (x : T) → after ≡ keep same k x → Distinct same (arrived k) → Distinct same (arrived after)
-  distinct_after laws k after x is d = rw is (distinct_keep laws k x d)
+      put_cases k x (λ n. Distinct same (arrived n)) (has same (arrived k) x) (λ _. d) (distinct_next laws k x d) (λ _ _. d)

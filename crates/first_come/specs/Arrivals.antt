@@ -1,5 +1,7 @@
 -- What a first-come list holds and answers.
-use Rattle.std.specs.Prelude.{◌≡◌, ℕ, suc, ◌+◌, Bool, false, cond, ◌||◌, List, [], ◌∷◌, ◌++◌, length, take, Some, None, Option, nat_lt, slice_set}
+use Rattle.std.specs.Prelude.{◌≡◌, ℕ, suc, ◌+◌, Bool, true, false, cond, ◌||◌, List, [], ◌∷◌, ◌++◌, length, take, Some, None, Option, nat_lt, slice_set}
+use Rattle.std.specs.Coded.{×_prop, Unit-prop}
+use mathlib.Core.Bool.{Bool-set}
 use Rattle.first_come.specs.declared.listed.Listed.{Listed}
 use Rattle.first_come.specs.declared.listed.Listed.TheVariants.{Already, Added, Full}
 
@@ -31,6 +33,15 @@ with_next k x = kept (slice_set k.places k.len x) (k.len + 1)
 abbrev pub put_unless : {T : Type 0} → Bool → Kept T → T → Kept T
 put_unless held k x = cond held k (cond (has_room k) (with_next k x) k)
 
+-- whether an item is new in the list, and the place at which it stands then, if it does
+abbrev pub Answer : Type 0
+Answer = Bool × Option ℕ
+
+abbrev pub listed_told : Listed → Answer
+listed_told (Already place) = (false, Some place)
+listed_told (Added place) = (true, Some place)
+listed_told Full = (false, None)
+
 module _ {T : Type 0} (same : T → T → Bool) where
   -- some item of the list is the same as x
   abbrev pub has : List T → T → Bool
@@ -50,9 +61,13 @@ module _ {T : Type 0} (same : T → T → Bool) where
   Distinct [] = Unit {0}
   Distinct (x ∷ xs) = (has xs x ≡ false) × Distinct xs
 
+  pub distinct_prop : (xs : List T) → IsProp (Distinct xs)
+  distinct_prop [] = Unit-prop
+  distinct_prop (x ∷ xs) = ×_prop (Bool-set _ _) (distinct_prop xs)
+
   -- what is answered when x is listed: there already, added, or full
-  abbrev pub answer : Kept T → T → Listed
-  answer k x = cond (has (arrived k) x) (Already (place_of (arrived k) x)) (cond (has_room k) (Added k.len) Full)
+  abbrev pub answer : Kept T → T → Answer
+  answer k x = cond {A = Answer} (has (arrived k) x) (false, Some (place_of (arrived k) x)) (cond {A = Answer} (has_room k) (true, Some k.len) (false, None))
 
   -- what is kept then
   abbrev pub keep : Kept T → T → Kept T

@@ -1,7 +1,7 @@
 //! Rows cut to the variables of a pattern: the entries of the first, second and third, open where there is no such variable.
 ghost use Rattle.std.specs.Prelude.{◌≡◌};
 ghost use Rattle.detectors.specs.Cuts.{contained_cut, applicable_cut, progression_cut};
-ghost use Rattle.detectors.specs.CutMarks.{digit_of, mark_of};
+ghost use Rattle.detectors.specs.CutMarks.{digit_of, cut_mark};
 ghost use Rattle.detectors.specs.CutMarking.{cut_marking};
 
 use first_come::mark::Mark;
@@ -42,7 +42,7 @@ impl Cut {
 
 /// A cut has no mark where it gives a value above those of any model.
 impl Mark for Cut {
-    ghost mark = { mark_of };
+    ghost mark = { cut_mark };
 
     ghost own = { cut_marking };
 

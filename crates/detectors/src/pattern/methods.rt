@@ -2,8 +2,8 @@
 ghost use Rattle.std.specs.Prelude.{◌≡◌, ◌≤◌, IfOk, slice_index};
 ghost use Rattle.model.specs.Drafts.{recorded};
 ghost use Rattle.detectors.specs.Operands.{pattern_answer};
-ghost use Rattle.detectors.specs.Patterns.{pattern_model, pattern_variables, chosen_or_refused, carried_or_back, MadeLawful};
-ghost use Rattle.detectors.specs.PatternMeaning.{product_of_sizes, pattern_dead, PatternDecides};
+ghost use Rattle.detectors.specs.Patterns.{pattern_model, pattern_variables, chosen_or_refused, carried_or_back, MadeDecides, MadeLawful};
+ghost use Rattle.detectors.specs.PatternMeaning.{product_of_sizes, pattern_dead};
 ghost use Rattle.detectors.specs.WorkedVerdicts.{WorkedPatternVerdicts};
 ghost use Rattle.std.proofs.lemmas.Bool.{and_parts};
 ghost use Rattle.model.proofs.SealedModel.{model_sealed};
@@ -31,7 +31,7 @@ impl Pattern {
         ensures answer { IfOk result (λ a. chosen_or_refused a ≡ pattern_answer (recorded model).variables (slice_index operands 0) (slice_index operands 1) (slice_index operands 2)) }
         ensures model { IfOk result (λ a. carried_or_back a ≡ recorded model) }
         ensures lawful { IfOk result MadeLawful }
-        ensures decides { PatternDecides }
+        ensures decides { IfOk result MadeDecides }
         ensures worked { WorkedPatternVerdicts }
     {
         match choose_variables(&model, operands) {

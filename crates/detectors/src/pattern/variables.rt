@@ -1,7 +1,7 @@
 //! The variables of a pattern, and what they leave of rows and moves.
 ghost use Rattle.std.specs.Prelude.{◌≡◌, map, IfOk};
 ghost use Rattle.detectors.specs.Cuts.{entry_of, cut_of, cut_move};
-ghost use Rattle.detectors.specs.PatternMeaning.{given_at, gives};
+ghost use Rattle.detectors.specs.PatternMeaning.{given_if_any, gives};
 
 use crate::pattern::cut::{Cut, CutMove};
 use model::moves::Move;
@@ -25,7 +25,7 @@ fn entry(row: &Row, variable: Option<usize>) -> Option<u8>
 
 /// Whether the row gives the variable, if there is one.
 fn is_given(row: &Row, variable: Option<usize>) -> bool
-    ensures { result ≡ given_at row.now variable }
+    ensures { result ≡ given_if_any row.now variable }
 {
     variable.is_none_or(|variable| row.gives(variable))
 }

@@ -41,7 +41,7 @@ impl Walk<'_> {
     {
         // By places, since the list grows as they are taken.
         for place in 0..PLACES {
-            let Some(from) = self.cuts.get(place) else {
+            let Some(from) = self.cuts.get(place).copied() else {
                 return;
             };
             self.follow_all(moves, &from);
@@ -49,6 +49,7 @@ impl Walk<'_> {
     }
 
     /// Lists the cuts to which the moves lead.
+    #[tactic(auto, using(crate::proofs::WalkSteps::follow_next))]
     fn follow_all(&mut self, moves: &[CutMove], from: &Cut)
         ensures { cuts self.new ≡ keep_all same_cut (cuts self.old) (results moves.now from.now) }
     {

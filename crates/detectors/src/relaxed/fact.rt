@@ -1,5 +1,5 @@
 //! Facts: what is so of one variable.
-ghost use Rattle.detectors.specs.Facts.{mark_of};
+ghost use Rattle.detectors.specs.Facts.{fact_mark};
 ghost use Rattle.detectors.specs.FactMarking.{fact_marking};
 
 use first_come::mark::Mark;
@@ -13,7 +13,7 @@ pub(crate) struct Fact {
 
 /// There are 16 marks for each variable. A fact of a model's row has one.
 impl Mark for Fact {
-    ghost mark = { mark_of };
+    ghost mark = { fact_mark };
 
     ghost own = { fact_marking };
 

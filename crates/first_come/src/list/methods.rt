@@ -1,14 +1,13 @@
 //! A first-come list is made, asked and added to.
-ghost use Rattle.std.specs.Prelude.{◌≡◌, false};
+ghost use Rattle.std.specs.Prelude.{◌≡◌, false, option_map};
 ghost use Rattle.std.specs.List.{position, slice_get};
-ghost use Rattle.first_come.specs.Arrivals.{Distinct, has, arrived, found_at, kept, next_place, put_unless, answer, keep, InOrderOfArrival};
+ghost use Rattle.first_come.specs.Arrivals.{Distinct, has, arrived, found_at, kept, next_place, put_unless, listed_told, answer, keep, InOrderOfArrival};
 ghost use Rattle.first_come.specs.Contents.{contents, lender};
-ghost use Rattle.first_come.specs.Marks.{held_by_mark, keep_by_mark, with_mark, marks_after, ToldAsListed, KeptAsListed};
 
 use super::FirstCome;
 use crate::listed::Listed;
 
-impl<'a, T: Eq + Copy> FirstCome<'a, T> {
+impl<'a, T: Eq + Drop> FirstCome<'a, T> {
     /// An empty list over the lent places.
     pub fn new(places: &'a mut [T]) -> FirstCome<'a, T>
         ensures empty { contents result ≡ kept places.old 0 }
@@ -40,10 +39,10 @@ impl<'a, T: Eq + Copy> FirstCome<'a, T> {
     }
 
     /// The item at a place, if one is listed there.
-    pub fn get(&self, place: usize) -> Option<T>
-        ensures { result ≡ slice_get (arrived (contents self.now)) place }
+    pub fn get(&self, place: usize) -> Option<&T>
+        ensures { option_map (λ item. item.now) result ≡ slice_get (arrived (contents self.now)) place }
     {
-        self.as_slice().get(place).copied()
+        self.as_slice().get(place)
     }
 
     /// The items in order of arrival.
@@ -55,10 +54,10 @@ impl<'a, T: Eq + Copy> FirstCome<'a, T> {
 
     /// Lists the item, unless one that is the same is listed or no place is left.
     pub fn list(&mut self, item: T) -> Listed
-        ensures answered { result ≡ answer T.eq (contents self.old) item }
+        ensures answered { listed_told result ≡ answer T.eq (contents self.old) item }
         ensures kept { contents self.new ≡ keep T.eq (contents self.old) item }
         ensures lender { lender self.new ≡ lender self.old }
-        ensures once { Distinct T.eq (arrived (contents self.old)) → Distinct T.eq (arrived (contents self.new)) }
+        ensures once { Distinct T.eq (arrived (contents self.new)) }
         ensures in_order { InOrderOfArrival T.eq (contents self.old) item (contents self.new) }
     {
         if let Some(place) = self.place_of(&item) {
@@ -67,8 +66,10 @@ impl<'a, T: Eq + Copy> FirstCome<'a, T> {
         self.put(item).map_or(Listed::Full, Listed::Added)
     }
 
-    /// Puts the item in the next place, and tells which, if one is left.
-    fn put(&mut self, item: T) -> Option<usize>
+    /// Puts an item that is not listed in the next place, and tells which, if one is left.
+    #[tactic(auto, using(crate::proofs::Arrivals::distinct_next))]
+    pub(crate) fn put(&mut self, item: T) -> Option<usize>
+        requires { has T.eq (arrived (contents self.old)) item ≡ false }
         ensures answered { result ≡ next_place (contents self.old) }
         ensures kept { contents self.new ≡ put_unless false (contents self.old) item }
         ensures lender { lender self.new ≡ lender self.old }
@@ -81,42 +82,6 @@ impl<'a, T: Eq + Copy> FirstCome<'a, T> {
         self.places[place] = item;
         self.len = place + 1;
         Some(place)
-    }
-
-    /// Whether an item that is the same is listed: by its mark in a table, or by looking where the table has no such mark.
-    pub fn holds_marked(&self, marks: &[bool], mark: Option<usize>, item: &T) -> bool
-        ensures answered { result ≡ held_by_mark T.eq (contents self.now) marks.now mark item.now }
-        ensures as_listed { ToldAsListed T.eq (contents self.now) marks.now mark item.now result }
-    {
-        match mark.and_then(|mark| marks.get(mark)) {
-            Some(set) => *set,
-            None => self.holds(item),
-        }
-    }
-
-    /// Lists the item as `list` does, but asks its mark in a table whether one that is the same is listed. An item that is
-    /// added is marked. Whoever keeps the table answers for its marks being true.
-    pub fn list_marked(&mut self, marks: &mut [bool], mark: Option<usize>, item: T)
-        ensures kept { contents self.new ≡ keep_by_mark T.eq (contents self.old) marks.old mark item }
-        ensures marked { marks.new ≡ marks_after T.eq (contents self.old) marks.old mark item }
-        ensures lender { lender self.new ≡ lender self.old }
-        ensures as_listed { KeptAsListed T.eq (contents self.old) marks.old mark item (contents self.new) marks.new }
-    {
-        if !self.holds_marked(marks, mark, &item) && self.put(item).is_some() {
-            set_mark(marks, mark);
-        }
-    }
-}
-
-/// Sets the mark, if the table has it.
-fn set_mark(marks: &mut [bool], mark: Option<usize>)
-    ensures { marks.new ≡ with_mark marks.old mark }
-{
-    // By the index, since behind `get_mut` a proof knows no more than the length.
-    if let Some(mark) = mark
-        && mark < marks.len()
-    {
-        marks[mark] = true;
     }
 }
 
