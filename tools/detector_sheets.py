@@ -36,6 +36,12 @@ LANE = (
     {0: 2, 1: 2},
 )
 
+# The same, but that bringing the lane to its goal leaves the dock alone.
+FREE = (LANE[0], [LANE[1][0], ({0: 1}, {0: 2})] + LANE[1][2:], LANE[2], LANE[3])
+
+# The goal is of a variable that the only move does not touch.
+SPLIT = ([2, 2, 2], [({0: 0}, {0: 1})], {0: 0, 1: 0, 2: 0}, {2: 1})
+
 # A gate that opens to whoever has the key, and nobody has it.
 KEY = ([2, 2], [({1: 1}, {0: 1})], {0: 0, 1: 0}, {0: 1})
 
@@ -81,6 +87,11 @@ SHEETS = {
     "lane-relaxed": sheet(*LANE, 1),
     "lane-pattern-of-both": sheet(*LANE, 2, [0, 1]),
     "lane-pattern-of-lane": sheet(*LANE, 2, [0]),
+    "free-relaxed": sheet(*FREE, 1),
+    "free-pattern-of-both": sheet(*FREE, 2, [0, 1]),
+    "split-relaxed": sheet(*SPLIT, 1),
+    "split-pattern-of-first-two": sheet(*SPLIT, 2, [0, 1]),
+    "split-pattern-of-third": sheet(*SPLIT, 2, [2]),
     "key-relaxed": sheet(*KEY, 1),
     "key-pattern-of-gate": sheet(*KEY, 2, [0]),
     "chain-relaxed": sheet(*chain(), 1),

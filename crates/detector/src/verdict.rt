@@ -5,7 +5,7 @@ ghost use Rattle.detector.specs.Verdicts.{says_dead};
 /// A verdict on a row.
 #[derive(Clone, Copy, PartialEq, Eq)]
 pub enum Verdict {
-    /// No state that contains the row has a plan.
+    /// The row is in the dead set. Where the detector keeps the two laws, no state that contains the row has a plan.
     Dead,
     /// Nothing is said of the row.
     Silent,

@@ -14,7 +14,7 @@ pub(crate) mod operands;
 mod variables;
 mod walking;
 
-/// A model, one to three of its variables, and the model's moves and goal cut to these once for all rows.
+/// A model, one to three variables, and the model's moves and goal cut to these once for all rows.
 #[derive(Drop)]
 pub struct Pattern {
     model: Model,

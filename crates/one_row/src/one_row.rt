@@ -8,7 +8,7 @@ use model::sealed::Model;
 
 pub mod methods;
 
-/// A row of a model that disagrees with the goal, and that every applicable move keeps.
+/// A model, and a row that disagrees with its goal and that every applicable move keeps.
 #[derive(Drop)]
 pub struct OneRow {
     model: Model,
