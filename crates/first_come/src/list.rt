@@ -5,7 +5,7 @@ ghost use Rattle.first_come.specs.Arrivals.{Distinct, distinct_prop};
 pub mod methods;
 
 /// Items in order of arrival, no two of them the same, in the first `len` of the lent places. Whoever lends them gets them back, so
-/// that there is no `Vec`.
+/// that there is no `Vec`. The bound stands on the struct, since what it keeps (`once`) speaks of sameness.
 #[derive(Drop)]
 pub struct FirstCome<'a, T: Eq> {
     places: &'a mut [T],

@@ -67,7 +67,6 @@ impl<'a, T: Eq + Drop> FirstCome<'a, T> {
     }
 
     /// Puts an item that is not listed in the next place, and tells which, if one is left.
-    #[tactic(auto, using(crate::proofs::Arrivals::distinct_next))]
     pub(crate) fn put(&mut self, item: T) -> Option<usize>
         requires { has T.eq (arrived (contents self.old)) item ≡ false }
         ensures answered { result ≡ next_place (contents self.old) }
