@@ -70,7 +70,7 @@ def chain():
 
 
 def cube(given):
-    """Three variables of size 8 among 32 of size 16, and 128 moves that can always be done, which give so many values of the third.
+    """Three variables of size 8 and 29 of size 16, and 128 moves that can always be done, which give so many values of the third.
 
     With 8 the walk of a pattern over the three reaches all its 512 cuts, the goal among them; with 7 it reaches 448, and not the goal.
     """

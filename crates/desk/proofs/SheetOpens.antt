@@ -6,12 +6,12 @@ use Rattle.sheet.specs.Commands.{commands}
 use Rattle.model.specs.Records.{blank}
 use Rattle.model.proofs.SealedModel.{model_sealed}
 use Rattle.detectors.specs.ShippedRows.{shipped_sealed}
-use Rattle.detectors.specs.Shipping.{EveryShippedDetectorIsLawful}
-use Rattle.detectors.proofs.ShippedLaws.{shipped_lawful}
+use Rattle.detectors.specs.Shipping.{EveryShippedDetectorIsLawful, EveryShippedDetectorDecides}
+use Rattle.detectors.proofs.ShippedLaws.{shipped_lawful, shipped_decides}
 use Rattle.desk.specs.declared.opening.Opening.{Opening}
 use Rattle.desk.specs.declared.opening.Opening.TheVariants.{Unsealed, Unchosen, Ended, Orders}
 use Rattle.desk.specs.InOrder.{ModelIsSealed}
-use Rattle.desk.specs.Told.{opening_told, DetectorIsLawful}
+use Rattle.desk.specs.Told.{opening_told, DetectorIsLawful, DetectorDecides}
 use Rattle.desk.specs.Steps.{naming}
 use Rattle.desk.specs.ModelPart.{ModelEnd, model_part}
 use Rattle.desk.specs.Openings.{unsealed, opened_by, opening}
@@ -39,3 +39,11 @@ every_detector_lawful (Unsealed stop) = tt
 every_detector_lawful (Unchosen m stop) = tt
 every_detector_lawful (Ended s) = shipped_lawful s
 every_detector_lawful (Orders s place) = shipped_lawful s
+
+-- and calls dead what is said of its kind
+pub every_detector_decides : (o : Opening) → DetectorDecides o
+unfolding EveryShippedDetectorDecides
+every_detector_decides (Unsealed stop) = tt
+every_detector_decides (Unchosen m stop) = tt
+every_detector_decides (Ended s) = shipped_decides s
+every_detector_decides (Orders s place) = shipped_decides s

@@ -17,7 +17,7 @@ use Rattle.desk.specs.Lines.{printed}
 pub data Opened : Type 0 where
   -- refused before the model is sealed
   unsealed : Stop → Opened
-  -- refused behind the sealed model, before a detector is chosen
+  -- refused behind the sealed model, before a detector is made
   unchosen : ModelRecord → Stop → Opened
   -- the sheet ends behind its detector
   ended : ModelRecord → Chosen → Opened

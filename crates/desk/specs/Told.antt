@@ -4,7 +4,7 @@ use Rattle.sheet.specs.Commands.{commands_from}
 use Rattle.model.specs.Drafts.{recorded}
 use Rattle.detector.specs.Laws.{Lawful}
 use Rattle.detectors.specs.declared.shipped.Shipped.{Shipped}
-use Rattle.detectors.specs.Shipping.{shipped_model, shipped_dead, detector_told, MeansWhatIsTold}
+use Rattle.detectors.specs.Shipping.{shipped_model, shipped_dead, detector_told, MeansWhatIsTold, ShippedDecides}
 use Rattle.desk.specs.declared.opening.Stop.{Stop}
 use Rattle.desk.specs.declared.opening.Opening.{Opening}
 use Rattle.desk.specs.declared.opening.Opening.TheVariants.{Unsealed, Unchosen, Ended, Orders}
@@ -32,6 +32,10 @@ OfTheDetector P (Orders s place) = P s
 -- it has the dead set of the kind and the operands by which it is told
 abbrev pub DetectorMeansWhatIsTold : Opening → Type 0
 DetectorMeansWhatIsTold = OfTheDetector MeansWhatIsTold
+
+-- the rows that it calls dead are what is said of its kind
+abbrev pub DetectorDecides : Opening → Type 0
+DetectorDecides = OfTheDetector ShippedDecides
 
 -- it keeps the two laws
 abbrev pub DetectorIsLawful : Opening → Type 0

@@ -14,7 +14,7 @@ use sheet::Command;
 use std::alloc::{AllocError, Global};
 
 /// Makes the detector that the command behind the model chooses, or gives the model back.
-pub(crate) fn take(
+pub(crate) fn make_detector(
     heap: Global,
     model: Model,
     command: Command,
@@ -23,15 +23,10 @@ pub(crate) fn take(
     ensures model { IfOk result (λ made. model_told made ≡ recorded model) }
     ensures meaning { IfOk result MadeMeansWhatIsTold }
 {
-    match command {
-        Command::Detector { kind, variables } => make(heap, model, kind, variables),
-        Command::Fault(fault) => Ok(Err(Unmade {
-            model,
-            refusal: fault.into(),
-        })),
-        _ => Ok(Err(Unmade {
-            model,
-            refusal: Refusal::OutOfTurn,
-        })),
-    }
+    let refusal = match command {
+        Command::Detector { kind, variables } => return make(heap, model, kind, variables),
+        Command::Fault(fault) => fault.into(),
+        _ => Refusal::OutOfTurn,
+    };
+    Ok(Err(Unmade { model, refusal }))
 }

@@ -5,11 +5,11 @@ ghost use Rattle.desk.specs.InOrder.{ModelIsSealed, StandsInOrder};
 ghost use Rattle.desk.specs.Lines.{printed};
 ghost use Rattle.desk.specs.ModelPart.{stop_at};
 ghost use Rattle.desk.specs.Openings.{behind_model, opened_by, model_line, stop_line, opening, opening_lines, printed_of};
-ghost use Rattle.desk.specs.Told.{DetectorIsLawful, DetectorMeansWhatIsTold, OfTheDetector, model_part_told, opening_told};
+ghost use Rattle.desk.specs.Told.{DetectorDecides, DetectorIsLawful, DetectorMeansWhatIsTold, OfTheDetector, model_part_told, opening_told};
 ghost use Rattle.detectors.specs.Shipping.{detector_told, shipped_model};
 ghost use Rattle.model.specs.Drafts.{recorded};
 
-use crate::detector_part::take;
+use crate::detector_part::make_detector;
 use crate::lines::Line;
 use crate::model_part::{SealedAt, read_model};
 use crate::stage::Stage;
@@ -53,10 +53,10 @@ impl Stop {
 pub enum Opening {
     /// It is refused before its model is sealed.
     Unsealed(Stop),
-    /// Its model is sealed, and it is refused before a detector is chosen.
+    /// Its model is sealed, and it is refused before a detector is made.
     Unchosen { model: Model, stop: Stop },
     /// It ends behind its detector, which carries the model.
-    Ended { detector: Shipped },
+    Ended(Shipped),
     /// It goes on behind its detector, at the place `orders`.
     Orders { detector: Shipped, orders: usize },
 }
@@ -70,6 +70,7 @@ pub fn open_sheet(heap: Global, sheet: &[u8]) -> Result<Opening, AllocError>
     ensures in_order { IfOk result (λ o. StandsInOrder (commands sheet.now) (opening_told o)) }
     ensures meaning { IfOk result DetectorMeansWhatIsTold }
     ensures lawful { IfOk result DetectorIsLawful }
+    ensures decides { IfOk result DetectorDecides }
 {
     if sheet.len() > LONGEST {
         let stop = Stop {
@@ -95,7 +96,7 @@ fn open_behind(heap: Global, sealed: SealedAt, sheet: &[u8]) -> Result<Opening, 
         let stop = Stop::at(sheet.len(), next, Refusal::SheetEnds);
         return Ok(Opening::Unchosen { model, stop });
     };
-    match take(heap, model, found.command)? {
+    match make_detector(heap, model, found.command)? {
         Ok(detector) => Ok(open_with(detector, found.next, sheet.len())),
         Err(Unmade { model, refusal }) => {
             let stop = Stop::at(sheet.len(), found.place, refusal);
@@ -110,7 +111,7 @@ fn open_with(detector: Shipped, next: usize, end: usize) -> Opening
     ensures carried { OfTheDetector (λ s. s ≡ detector) result }
 {
     if next == end {
-        Opening::Ended { detector }
+        Opening::Ended(detector)
     } else {
         Opening::Orders {
             detector,
@@ -153,7 +154,7 @@ impl fmt::Display for Opening {
                 Line::from(model),
                 Line::from(*stop)
             ),
-            Opening::Ended { detector } => writeln!(
+            Opening::Ended(detector) => writeln!(
                 f,
                 "{}\n{}",
                 Line::from(detector.model()),

@@ -1,4 +1,4 @@
--- What a detector means, and the two laws that whoever supplies it has to show.
+-- What a detector means, and the two laws: who shows them of a detector makes it one to be trusted.
 use Rattle.std.specs.Prelude.{◌≡◌, ℕ, Bool, true, List}
 use Rattle.model.specs.declared.row.Row.{Row}
 use Rattle.model.specs.Rows.{contained}

@@ -30,7 +30,7 @@ abbrev pub MadeLawful : Result Pattern Unmade → Type 0
 MadeLawful (Ok p) = Lawful (pattern_model p) (pattern_dead (pattern_model p) (pattern_variables p))
 MadeLawful (Err u) = Unit {0}
 
--- and its dead set is what is said of patterns
+-- and its dead set decides what is said of a pattern's rows
 abbrev pub MadeDecides : Result Pattern Unmade → Type 0
 MadeDecides (Ok p) = PatternDecides (pattern_model p) (pattern_variables p)
 MadeDecides (Err u) = Unit {0}

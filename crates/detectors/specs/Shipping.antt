@@ -11,9 +11,10 @@ use Rattle.detectors.specs.declared.shipped.Shipped.TheVariants.{Bare, Relaxed, 
 use Rattle.detectors.specs.declared.unmade.Unmade.{Unmade}
 use Rattle.detectors.specs.Choosing.{Chosen}
 use Rattle.detectors.specs.Closure.{relaxed_dead}
+use Rattle.detectors.specs.ReachedFacts.{RelaxedDecides}
 use Rattle.detectors.specs.RelaxedMeaning.{relaxed_model}
 use Rattle.detectors.specs.Operands.{operands_of, variables_of}
-use Rattle.detectors.specs.PatternMeaning.{pattern_dead}
+use Rattle.detectors.specs.PatternMeaning.{pattern_dead, PatternDecides}
 use Rattle.detectors.specs.Patterns.{pattern_model, pattern_variables}
 
 -- the record of the model that a bare detector carries
@@ -39,6 +40,16 @@ shipped_dead (Pattern detector) row = pattern_dead (pattern_model detector) (pat
 -- whoever asks whether a detector of this crate keeps the two laws: each does
 unfoldable pub EveryShippedDetectorIsLawful : Type 0
 EveryShippedDetectorIsLawful = (s : Shipped) → Lawful (shipped_model s) (shipped_dead s)
+
+-- what is said of the rows that it calls dead, in the words of its kind
+abbrev pub ShippedDecides : Shipped → Type 0
+ShippedDecides (Bare detector) = (row : Row) → bare_dead (bare_model detector) row ≡ false
+ShippedDecides (Relaxed detector) = RelaxedDecides (relaxed_model detector)
+ShippedDecides (Pattern detector) = PatternDecides (pattern_model detector) (pattern_variables detector)
+
+-- so of every detector of this crate
+unfoldable pub EveryShippedDetectorDecides : Type 0
+EveryShippedDetectorDecides = (s : Shipped) → ShippedDecides s
 
 -- the kind of a detector and its operands
 abbrev pub detector_told : Shipped → Chosen

@@ -1,4 +1,4 @@
-//! The kinds of the detectors that ship.
+//! Kinds of detectors, by their numbers.
 ghost use Rattle.std.specs.Prelude.{◌≡◌};
 ghost use Rattle.detectors.specs.Choosing.{kind_of};
 

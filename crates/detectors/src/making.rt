@@ -4,7 +4,7 @@ ghost use Rattle.std.specs.List.{list_all};
 ghost use Rattle.model.specs.Drafts.{recorded};
 ghost use Rattle.detectors.specs.Operands.{none_given};
 ghost use Rattle.detectors.specs.Choosing.{kind_number, kind_answer};
-ghost use Rattle.detectors.specs.Shipping.{made_told, model_told, MadeMeansWhatIsTold, EveryShippedDetectorIsLawful};
+ghost use Rattle.detectors.specs.Shipping.{made_told, model_told, MadeMeansWhatIsTold, EveryShippedDetectorIsLawful, EveryShippedDetectorDecides};
 
 use crate::bare::Bare;
 use crate::kind::Kind;
@@ -20,7 +20,7 @@ use std::alloc::{AllocError, Global};
 /// Makes the detector of a kind: 0 is bare, 1 relaxed and 2 a pattern. The first two take no variable, so that each operand is
 /// 255; a pattern takes one to three. Where it is refused the model is given back. The kind is a number, since one that is unknown is
 /// refused here.
-#[tactic(auto, using(crate::proofs::ShippedLaws::shipped_lawful, crate::proofs::MadeByKind::number_of_kind))]
+#[tactic(auto, using(crate::proofs::ShippedLaws::shipped_lawful, crate::proofs::ShippedLaws::shipped_decides, crate::proofs::MadeByKind::number_of_kind))]
 pub fn make(
     heap: Global,
     model: Model,
@@ -31,6 +31,7 @@ pub fn make(
     ensures model { IfOk result (λ made. model_told made ≡ recorded model) }
     ensures meaning { IfOk result MadeMeansWhatIsTold }
     ensures lawful { EveryShippedDetectorIsLawful }
+    ensures decides { EveryShippedDetectorDecides }
 {
     match Kind::try_from(kind) {
         Ok(kind) => make_kind(heap, model, kind, operands),
@@ -50,6 +51,7 @@ fn make_kind(
     ensures model { IfOk result (λ made. model_told made ≡ recorded model) }
     ensures meaning { IfOk result MadeMeansWhatIsTold }
 {
+    // Not by a guard in the `match`, behind which a proof does not know the kind.
     if kind != Kind::Pattern && !gives_none(operands) {
         return Ok(Err(Unmade {
             model,

@@ -61,6 +61,7 @@ module _ {T : Type 0} (same : T → T → Bool) where
   Distinct [] = Unit {0}
   Distinct (x ∷ xs) = (has xs x ≡ false) × Distinct xs
 
+  -- there is one proof of that, so that a list can keep it as an invariant
   pub distinct_prop : (xs : List T) → IsProp (Distinct xs)
   distinct_prop [] = Unit-prop
   distinct_prop (x ∷ xs) = ×_prop (Bool-set _ _) (distinct_prop xs)

@@ -15,8 +15,8 @@ fn read_detector(rt: &HostRuntime, name: &str) -> anyhow::Result<Shipped> {
     let heap = rt.alloc();
     let sheet = fs::read(rt, format!(in heap; "{name}.sheet")?)?;
     match open_sheet(heap, sheet.as_slice())? {
-        Opening::Ended { detector } => Ok(detector),
-        _ => Err(anyhow!("a sheet of the table does not end behind its detector")),
+        Opening::Ended(detector) => Ok(detector),
+        _ => Err(anyhow!("{name} does not end behind its detector")),
     }
 }
 

@@ -50,7 +50,7 @@ fn given(operand: u8) -> Option<usize>
 }
 
 /// The variables that the operands choose, whose sizes multiply to at most 512.
-pub(crate) fn choose_variables(model: &Model, operands: [u8; 3]) -> Result<Variables, Refusal>
+pub(super) fn choose_variables(model: &Model, operands: [u8; 3]) -> Result<Variables, Refusal>
     ensures answer { result ≡ pattern_answer (recorded model.now).variables (slice_index operands 0) (slice_index operands 1) (slice_index operands 2) }
     ensures small { IfOk result (λ x. product_of_sizes (recorded model.now).variables x ≤ 512) }
 {

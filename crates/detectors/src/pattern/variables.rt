@@ -10,10 +10,10 @@ use std::alloc::{AllocError, Global};
 
 /// One to three variables of a model.
 #[derive(Clone, Copy)]
-pub struct Variables {
-    pub first: usize,
-    pub second: Option<usize>,
-    pub third: Option<usize>,
+pub(crate) struct Variables {
+    pub(crate) first: usize,
+    pub(crate) second: Option<usize>,
+    pub(crate) third: Option<usize>,
 }
 
 /// The row's entry of a variable, open where there is no variable.
