@@ -9,3 +9,4 @@ pub mod LimitFacts
 pub mod LastMove
 pub mod SealedModel
 pub mod StepFacts
+pub mod WrongEntries

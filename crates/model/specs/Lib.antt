@@ -9,5 +9,6 @@ pub mod Records
 pub mod Plans
 pub mod MoveLaws
 pub mod Tables
+pub mod WrongEntries
 pub mod Writing
 pub mod Drafts

@@ -6,7 +6,7 @@ use Rattle.model.specs.declared.moves.Move.{Move}
 use Rattle.model.specs.declared.table.MoveTable.{MoveTable}
 use Rattle.model.specs.Rows.{open_row}
 
--- what a step of writing a model answers: done, or refused
+-- what a step or a check answers: it is done, or nothing is wrong; else why it is refused
 abbrev pub Answer : Type 0
 Answer = Result (Unit {0}) Refusal
 

@@ -1,6 +1,7 @@
 -- The steps by which a model is written. Each answers whether it is done; one that is refused leaves the model as it was.
 use Rattle.std.specs.Prelude.{ℕ, cond, List, [], ◌∷◌, ◌++◌, length, is_some, is_ok, Some, Ok, Err, Result, nat_lt}
-use Rattle.refusal.specs.declared.Refusal.TheVariants.{TooMany, SizeOutOfRange, NoSuchVariable, ValueTooLarge, EntryTwice, StartIncomplete}
+use Rattle.std.specs.Result.{result_and}
+use Rattle.refusal.specs.declared.Refusal.TheVariants.{TooMany, SizeOutOfRange, EntryTwice, StartIncomplete}
 use Rattle.model.specs.declared.row.Row.{Row}
 use Rattle.model.specs.declared.moves.Move.{Move}
 use Rattle.model.specs.declared.variable.Variable.{Variable}
@@ -9,8 +10,9 @@ use Rattle.model.specs.declared.in_hand.Part.TheVariants.{Conditions, Effects}
 use Rattle.model.specs.declared.in_hand.End.{End}
 use Rattle.model.specs.declared.in_hand.End.TheVariants.{Start, Goal}
 use Rattle.model.specs.Rows.{at, with_entry}
-use Rattle.model.specs.Limits.{size_at, size_fits, complete}
+use Rattle.model.specs.Limits.{size_fits, complete}
 use Rattle.model.specs.Tables.{Answer, begun, begin_answer, with_begun, last_begun, with_last}
+use Rattle.model.specs.WrongEntries.{value_checked}
 use Rattle.model.specs.Records.{ModelRecord, record_of}
 
 -- the model e where the step is done, and else the model d as it was
@@ -42,7 +44,7 @@ begin_move d name = with_moves d (with_begun d.moves name)
 
 -- the value v of the variable i is entered where there is such a variable, v is below its size, and the row leaves it open
 abbrev pub entry_answer : List Variable → Row → ℕ → ℕ → Answer
-entry_answer vs row i v = cond (nat_lt i (length vs)) (cond (nat_lt v (size_at vs i)) (cond (is_some (at row i)) (Err EntryTwice) (Ok tt)) (Err ValueTooLarge)) (Err NoSuchVariable)
+entry_answer vs row i v = result_and (value_checked vs i (Some v)) (cond (is_some (at row i)) (Err EntryTwice) (Ok tt))
 
 -- the row with that entry, or as it was where it is refused
 abbrev pub entered : List Variable → Row → ℕ → ℕ → Row

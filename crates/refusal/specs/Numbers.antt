@@ -1,7 +1,7 @@
 -- The number of each refusal.
 use Rattle.std.specs.Prelude.{ℕ}
 use Rattle.refusal.specs.declared.Refusal.{Refusal}
-use Rattle.refusal.specs.declared.Refusal.TheVariants.{SheetEnds, UnknownCommand, OutOfTurn, TooMany, SizeOutOfRange, NoSuchVariable, ValueTooLarge, EntryTwice, StartIncomplete, UnknownKind, WrongOperands}
+use Rattle.refusal.specs.declared.Refusal.TheVariants.{SheetEnds, UnknownCommand, OutOfTurn, TooMany, SizeOutOfRange, NoSuchVariable, ValueTooLarge, EntryTwice, StartIncomplete, UnknownKind, WrongOperands, MeetsGoal, LeadsOut, BookFull, BufferTooShort}
 
 abbrev pub refusal_number : Refusal → ℕ
 refusal_number SheetEnds = 1
@@ -15,3 +15,7 @@ refusal_number EntryTwice = 8
 refusal_number StartIncomplete = 9
 refusal_number UnknownKind = 10
 refusal_number WrongOperands = 11
+refusal_number MeetsGoal = 12
+refusal_number LeadsOut = 13
+refusal_number BookFull = 14
+refusal_number BufferTooShort = 17
