@@ -1,0 +1,13 @@
+pub mod Members
+pub mod Searches
+pub mod Entries
+pub mod FreshRows
+pub mod RuleLaws
+pub mod NoPlan
+pub mod OfferLaws
+pub mod Rounds
+pub mod Picked
+pub mod SettleLaws
+pub mod Orders
+pub mod Laying
+pub mod RowBytes

@@ -1,0 +1,10 @@
+pub mod Searches
+pub mod Rules
+pub mod Refusals
+pub mod Verdicts
+pub mod Adding
+pub mod Offers
+pub mod Settles
+pub mod Written
+pub mod Books
+pub mod Laws

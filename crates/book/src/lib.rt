@@ -1,0 +1,12 @@
+//! The book: rows that are known to be dead, over any detector. It is a detector again, and only its orders change it.
+#![tactic(auto)]
+
+mod adding;
+pub mod book;
+mod checking;
+pub mod refused;
+mod rules;
+pub mod settled;
+mod settling;
+mod sifted;
+mod writing;
