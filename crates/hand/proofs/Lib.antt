@@ -1,0 +1,3 @@
+pub mod Entries
+pub mod Spelled
+pub mod ReadBack

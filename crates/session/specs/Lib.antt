@@ -1,0 +1,3 @@
+pub mod Orders
+pub mod Sessions
+pub mod WrittenBook
