@@ -2,8 +2,8 @@
 #![tactic(auto)]
 
 use anyhow::anyhow;
-use desk::opening::{Opening, open_sheet};
-use std::io::Read;
+use desk::carrying::{Ending, carry_out};
+use std::io::{BufWriter, Read, Write};
 use std::process::ExitCode;
 
 /// One byte more than a sheet may have, so that a longer one is told. No more is read.
@@ -12,13 +12,12 @@ const MOST: u64 = 65_537;
 fn run(rt: &HostRuntime) -> anyhow::Result<()> {
     let mut sheet = Vec::new(rt.alloc());
     rt.stdin().take(MOST).read_to_end(&mut sheet)?;
-    let opening = open_sheet(rt.alloc(), sheet.as_slice())?;
-    print!(rt; "{opening}")?;
-    match opening {
-        Opening::Orders { .. } => Err(anyhow!(
-            "the sheet goes on behind its detector, and orders are not carried out yet"
-        )),
-        _ => Ok(()),
+    let mut out = BufWriter::new(rt.alloc(), rt.stdout())?;
+    let ending = carry_out(rt.alloc(), sheet.as_slice(), &mut out)?;
+    out.flush()?;
+    match ending {
+        Ending::Whole => Ok(()),
+        Ending::Probe => Err(anyhow!("a probe stands here, and probes are not carried out yet")),
     }
 }
 

@@ -1,7 +1,10 @@
 pub mod Accepting
+pub mod Hexadecimal
 pub mod ModelRun
 pub mod SheetOpens
 pub mod DetectorRun
 pub mod WentOn
 pub mod StandInOrder
 pub mod OpensInOrder
+pub mod OrderRun
+pub mod SheetRun

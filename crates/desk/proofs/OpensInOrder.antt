@@ -10,7 +10,7 @@ use Rattle.desk.specs.ModelPart.{ModelEnd, stopped, sealed, model_part}
 use Rattle.detectors.specs.Choosing.{Chosen, operands_fit}
 use Rattle.desk.specs.DetectorPart.{choice_answer, chosen_at, detector_part}
 use Rattle.desk.specs.Openings.{Opened, behind_model, opened_by, opening}
-use Rattle.desk.specs.InOrder.{InOrder, Chooses, InOrderWithDetector, StandsInOrder}
+use Rattle.desk.specs.InOrder.{InOrder, Chooses, StandsInOrder}
 use Rattle.desk.proofs.StandInOrder.{StandsBy, stand, in_order}
 
 -- a detector that was chosen
@@ -32,13 +32,12 @@ chooses vs i =
 
 -- behind a model d, whose commands stand before `rest`
 module _ (end : ℕ) (items : List Item) (d : ModelRecord) where
-  behind_choice : (i : Item) (is : List Item) → InOrder d items (i ∷ is) → (c : Result Chosen Refusal) → ChosenBy i c → StandsInOrder items (behind_model end d (chosen_at end i c))
+  behind_choice : (i : Item) (is : List Item) → InOrder d items (i ∷ is) → (c : Result Chosen Refusal) → ChosenBy i c → StandsInOrder items (behind_model d (chosen_at end i c))
   behind_choice i is o (Err r) chosen = (i ∷ is, o)
   behind_choice i is o (Ok detector) chosen =
-      let both : InOrderWithDetector d detector items = record { choice = i; rest = is; model_first = o; then_the_detector = chosen } in
-      cond_both (eqb i.next end) _ _ (StandsInOrder items) (λ _. both) (λ _. both)
+      record { choice = i; rest = is; model_first = o; then_the_detector = chosen }
 
-  stands_behind : (rest : List Item) → InOrder d items rest → StandsInOrder items (behind_model end d (detector_part end d.variables rest))
+  stands_behind : (rest : List Item) → InOrder d items rest → StandsInOrder items (behind_model d (detector_part end d.variables rest))
   stands_behind [] o = ([], o)
   stands_behind (i ∷ is) o = behind_choice i is o (choice_answer d.variables i.said) (chooses d.variables i)
 

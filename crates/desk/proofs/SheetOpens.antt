@@ -9,7 +9,7 @@ use Rattle.detectors.specs.ShippedRows.{shipped_sealed}
 use Rattle.detectors.specs.Shipping.{EveryShippedDetectorIsLawful, EveryShippedDetectorDecides}
 use Rattle.detectors.proofs.ShippedLaws.{shipped_lawful, shipped_decides}
 use Rattle.desk.specs.declared.opening.Opening.{Opening}
-use Rattle.desk.specs.declared.opening.Opening.TheVariants.{Unsealed, Unchosen, Ended, Orders}
+use Rattle.desk.specs.declared.opening.Opening.TheVariants.{Unsealed, Unchosen, Orders}
 use Rattle.desk.specs.InOrder.{ModelIsSealed}
 use Rattle.desk.specs.Told.{opening_told, DetectorIsLawful, DetectorDecides}
 use Rattle.desk.specs.Steps.{naming}
@@ -29,7 +29,6 @@ module _ (sheet : List ℕ) where
 pub every_opening_sealed : (o : Opening) → ModelIsSealed (opening_told o)
 every_opening_sealed (Unsealed stop) = tt
 every_opening_sealed (Unchosen m stop) = model_sealed m
-every_opening_sealed (Ended s) = shipped_sealed s
 every_opening_sealed (Orders s place) = shipped_sealed s
 
 -- and so its detector keeps the two laws
@@ -37,7 +36,6 @@ pub every_detector_lawful : (o : Opening) → DetectorIsLawful o
 unfolding EveryShippedDetectorIsLawful
 every_detector_lawful (Unsealed stop) = tt
 every_detector_lawful (Unchosen m stop) = tt
-every_detector_lawful (Ended s) = shipped_lawful s
 every_detector_lawful (Orders s place) = shipped_lawful s
 
 -- and calls dead what is said of its kind
@@ -45,5 +43,4 @@ pub every_detector_decides : (o : Opening) → DetectorDecides o
 unfolding EveryShippedDetectorDecides
 every_detector_decides (Unsealed stop) = tt
 every_detector_decides (Unchosen m stop) = tt
-every_detector_decides (Ended s) = shipped_decides s
 every_detector_decides (Orders s place) = shipped_decides s

@@ -5,7 +5,7 @@ use Rattle.std.specs.List.{list_all}
 use Rattle.model.specs.Records.{ModelRecord, blank, Sealed}
 use Rattle.model.specs.Writing.{with_variable, with_move, with_condition, with_effect, with_start, with_goal}
 use Rattle.detectors.specs.Choosing.{Chosen}
-use Rattle.desk.specs.Openings.{Opened, unsealed, unchosen, ended, orders}
+use Rattle.desk.specs.Openings.{Opened, unsealed, unchosen, orders}
 
 abbrev pub one_of : List ℕ → ℕ → Bool
 one_of [] b = false
@@ -65,12 +65,10 @@ pub record InOrderWithDetector (d : ModelRecord) (detector : Chosen) (items : Li
 abbrev pub StandsInOrder : List Item → Opened → Type 0
 StandsInOrder items (unsealed stop) = Unit {0}
 StandsInOrder items (unchosen d stop) = (rest : List Item) × InOrder d items rest
-StandsInOrder items (ended d detector) = InOrderWithDetector d detector items
 StandsInOrder items (orders d detector place) = InOrderWithDetector d detector items
 
 -- where the sheet's model was sealed, it keeps the limits of a model
 abbrev pub ModelIsSealed : Opened → Type 0
 ModelIsSealed (unsealed stop) = Unit {0}
 ModelIsSealed (unchosen d stop) = Sealed d
-ModelIsSealed (ended d detector) = Sealed d
 ModelIsSealed (orders d detector place) = Sealed d

@@ -6,3 +6,4 @@ pub mod Lines
 pub mod Openings
 pub mod Told
 pub mod InOrder
+pub mod Carrying

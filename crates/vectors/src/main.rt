@@ -1,7 +1,7 @@
 //! Runs the sheets that a table names, and compares what is printed of each with what must be.
 #![tactic(auto)]
 
-use desk::opening::open_sheet;
+use desk::carrying::carry_out;
 use std::fs;
 
 /// Whether what is printed of a sheet is what stands beside it.
@@ -9,9 +9,9 @@ fn agrees(rt: &HostRuntime, name: &str) -> anyhow::Result<bool> {
     let heap = rt.alloc();
     let sheet = fs::read(rt, format!(in heap; "{name}.sheet")?)?;
     let expected = fs::read(rt, format!(in heap; "{name}.out")?)?;
-    let opening = open_sheet(heap, sheet.as_slice())?;
-    let printed = format!(in heap; "{opening}")?;
-    Ok(printed.as_bytes() == expected.as_slice())
+    let mut printed = Vec::new(heap);
+    carry_out(heap, sheet.as_slice(), &mut printed)?;
+    Ok(printed.as_slice() == expected.as_slice())
 }
 
 fn run(rt: &HostRuntime) -> anyhow::Result<()> {

@@ -10,13 +10,13 @@ use detectors::shipped::Shipped;
 use std::fs;
 use std::time::Instant;
 
-/// The detector of a sheet that ends behind it.
+/// The detector of a sheet.
 fn read_detector(rt: &HostRuntime, name: &str) -> anyhow::Result<Shipped> {
     let heap = rt.alloc();
     let sheet = fs::read(rt, format!(in heap; "{name}.sheet")?)?;
     match open_sheet(heap, sheet.as_slice())? {
-        Opening::Ended(detector) => Ok(detector),
-        _ => Err(anyhow!("{name} does not end behind its detector")),
+        Opening::Orders { detector, .. } => Ok(detector),
+        _ => Err(anyhow!("{name} has no detector")),
     }
 }
 

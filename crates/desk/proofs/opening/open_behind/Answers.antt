@@ -13,7 +13,7 @@ pub returns-in-Ok-clause-told : goal.returns-in-Ok-clause-told
 returns-in-Ok-clause-told c =
     let told = rw c.in-Ok.is at c.in_ok-detector.ensures.told in
     let model = rw c.in-Ok.is at c.in_ok-detector.ensures.model in
-    c.open_with.ensures.told ∙ opened_some c.args.sheet.now c.args.sealed.next (recorded c.args.sealed.model) _ c.in-Some.ensures.answer _ model _ told
+    opened_some c.args.sheet.now c.args.sealed.next (recorded c.args.sealed.model) _ c.in-Some.ensures.answer _ model _ told
 
 pub returns-in-Err-clause-told : goal.returns-in-Err-clause-told
 returns-in-Err-clause-told c =
