@@ -1,6 +1,6 @@
 -- The two rules, as tests and in words, and what a book asks of rows that are added.
 use Rattle.std.proofs.Common.{◌≡◌, ℕ, Bool, true, false, not, ◌&&◌, ◌||◌, List, ◌++◌, Some, None, Option, sym, refl, ap, ◌∙◌, inl, inr, ⊎_elim}
-use Rattle.std.proofs.Math.Bool.{or_assoc}
+use Rattle.std.proofs.Math.Bool.{or_assoc, or_comm}
 use Rattle.std.proofs.lemmas.Bool.{and_parts, and_from, or_cases, or_left, or_right, false≢true}
 use Rattle.model.specs.declared.row.Row.{Row}
 use Rattle.model.specs.declared.moves.Move.{Move}
@@ -16,6 +16,10 @@ use Rattle.model.proofs.RowFacts.{at_row_of}
 use Rattle.book.specs.Rules.{covers, keeps_rule_1, stays_in, keeps_rule_2, keeps_rules, KeepsBothRules}
 use Rattle.book.specs.Verdicts.{book_dead}
 use Rattle.book.proofs.Members.{Within, all_from, covering, covered, covered_by_more, covers_both}
+
+-- either may be asked first
+pub either_first : (a b : Bool) → (a || b) ≡ (b || a)
+either_first = or_comm
 
 not_or : (a b : Bool) → a ≡ true → (not a || b) ≡ true → b ≡ true
 not_or true b e h = h

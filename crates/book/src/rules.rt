@@ -15,6 +15,7 @@ pub(crate) fn covers(set: &[Row], row: &Row) -> bool
 }
 
 /// Whether the row to which the move leads is called dead or contains a row of the set; also true of a move that is not applicable.
+#[tactic(auto, using(crate::proofs::RuleLaws::either_first))]
 fn stays_in<D: Detector>(detector: &D, set: &[Row], row: &Row, step: &Move) -> bool
     ensures { result ≡ stays_in (D.dead detector.now) set.now row.now step.now }
 {
@@ -22,7 +23,8 @@ fn stays_in<D: Detector>(detector: &D, set: &[Row], row: &Row, step: &Move) -> b
         return true;
     }
     let next = step.progression(row);
-    detector.verdict(&next).is_dead() || covers(set, &next)
+    // The set first: a verdict may cost much more.
+    covers(set, &next) || detector.verdict(&next).is_dead()
 }
 
 /// Whether the row keeps rule 2 in the set.

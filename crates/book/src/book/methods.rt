@@ -139,6 +139,7 @@ impl<D: Detector> Book<D> {
     pub fn write(&self, buffer: &mut [u8]) -> Result<usize, Refusal>
         ensures answer { result ≡ write_answer buffer.old (book_rows self.now) }
         ensures after { buffer.new ≡ buffer_after buffer.old (book_rows self.now) }
+        ensures lawful { BookIsLawful (D.carried (book_detector self.now)) (D.dead (book_detector self.now)) (book_rows self.now) }
     {
         write_rows(self.rows.as_slice(), buffer)
     }
