@@ -1,5 +1,7 @@
 -- What a session stands for.
-use Rattle.std.specs.Prelude.{ℕ, List, [], take, vec_items}
+use Rattle.std.specs.Prelude.{ℕ, cond, List, [], take, vec_items, ◌==◌}
+use Rattle.sheet.specs.Reading.{Told}
+use Rattle.book.specs.Written.{buffer_after}
 use Rattle.detector.specs.Verdicts.{says_dead}
 use Rattle.book.specs.Books.{book_rows, book_detector}
 use Rattle.hand.specs.Gathering.{nothing, gathered}
@@ -37,3 +39,7 @@ module _ {D : Type 0} {detecting : _} where
   -- what came of a command, told by the session that it left
   abbrev pub turn : Outcome → Session D detecting → Turn
   turn outcome s = (came (buffer_of s) outcome, state_of s)
+
+-- the bytes in the buffer behind a command: a write puts the book at their front, and every other command leaves them
+abbrev pub buffer_behind : List ℕ → State → Told → List ℕ
+buffer_behind buffer s said = cond (said.0 == 0x57) (buffer_after buffer s.rows) buffer

@@ -1,8 +1,9 @@
 //! Commands are carried out, one by one.
-ghost use Rattle.std.specs.Prelude.{◌≡◌, IfOk, take};
+ghost use Rattle.std.specs.Prelude.{◌≡◌, replicate, IfOk, take};
 ghost use Rattle.sheet.specs.Reading.{told};
 ghost use Rattle.session.specs.Orders.{entry_order, judge_order, next_order, offer_order, order, settle_order, write_order};
-ghost use Rattle.session.specs.Sessions.{buffer_of, detector_of, fresh_state, state_of, turn};
+ghost use Rattle.session.specs.Sessions.{buffer_behind, buffer_of, detector_of, fresh_state, state_of, turn};
+ghost use Rattle.book.specs.Written.{buffer_after};
 ghost use Rattle.session.specs.WrittenBook.{WrittenBookReadsBack};
 
 use super::Session;
@@ -23,6 +24,7 @@ impl<D: Detector + Drop> Session<D> {
     pub fn open(heap: Global, detector: D) -> Result<Session<D>, AllocError>
         ensures fresh { IfOk result (λ s. state_of s ≡ fresh_state) }
         ensures over { IfOk result (λ s. detector_of s ≡ detector) }
+        ensures buffer { IfOk result (λ s. buffer_of s ≡ replicate 32768 0) }
     {
         Ok(Session {
             book: Book::open(heap, detector)?,
@@ -37,6 +39,7 @@ impl<D: Detector> Session<D> {
     pub fn obey(&mut self, command: Command) -> Outcome
         ensures outcome { turn result self.new ≡ order (D.carried (detector_of self.old)) (D.dead (detector_of self.old)) (state_of self.old) (told command.entry) }
         ensures over { detector_of self.new ≡ detector_of self.old }
+        ensures buffer { buffer_of self.new ≡ buffer_behind (buffer_of self.old) (state_of self.old) (told command.entry) }
         ensures reads_back { WrittenBookReadsBack (D.carried (detector_of self.old)) (state_of self.old).rows }
     {
         self.carry_out(command)
@@ -46,6 +49,7 @@ impl<D: Detector> Session<D> {
     fn carry_out(&mut self, command: Command) -> Outcome
         ensures outcome { turn result self.new ≡ order (D.carried (detector_of self.old)) (D.dead (detector_of self.old)) (state_of self.old) (told command.entry) }
         ensures over { detector_of self.new ≡ detector_of self.old }
+        ensures buffer { buffer_of self.new ≡ buffer_behind (buffer_of self.old) (state_of self.old) (told command.entry) }
     {
         match command {
             Command::Entry { variable, value } => self.enter(variable, value),
@@ -64,6 +68,7 @@ impl<D: Detector> Session<D> {
     fn enter(&mut self, variable: u8, value: u8) -> Outcome
         ensures outcome { turn result self.new ≡ entry_order (D.carried (detector_of self.old)) (state_of self.old) variable value }
         ensures over { detector_of self.new ≡ detector_of self.old }
+        ensures buffer { buffer_of self.new ≡ buffer_of self.old }
     {
         match self
             .gathered
@@ -78,6 +83,7 @@ impl<D: Detector> Session<D> {
     fn next(&mut self) -> Outcome
         ensures outcome { turn result self.new ≡ next_order (state_of self.old) }
         ensures over { detector_of self.new ≡ detector_of self.old }
+        ensures buffer { buffer_of self.new ≡ buffer_of self.old }
     {
         match self.gathered.next() {
             Ok(()) => Outcome::Quiet,
@@ -89,6 +95,7 @@ impl<D: Detector> Session<D> {
     fn judge(&mut self) -> Outcome
         ensures outcome { turn result self.new ≡ judge_order (D.carried (detector_of self.old)) (D.dead (detector_of self.old)) (state_of self.old) }
         ensures over { detector_of self.new ≡ detector_of self.old }
+        ensures buffer { buffer_of self.new ≡ buffer_of self.old }
     {
         let judged = self.book.judge(self.gathered.row());
         self.gathered.drop_row();
@@ -102,6 +109,7 @@ impl<D: Detector> Session<D> {
     fn offer(&mut self) -> Outcome
         ensures outcome { turn result self.new ≡ offer_order (D.carried (detector_of self.old)) (D.dead (detector_of self.old)) (state_of self.old) }
         ensures over { detector_of self.new ≡ detector_of self.old }
+        ensures buffer { buffer_of self.new ≡ buffer_of self.old }
     {
         let offered = self.book.offer(self.gathered.list());
         self.gathered.drop_list();
@@ -115,6 +123,7 @@ impl<D: Detector> Session<D> {
     fn settle(&mut self) -> Outcome
         ensures outcome { turn result self.new ≡ settle_order (D.carried (detector_of self.old)) (D.dead (detector_of self.old)) (state_of self.old) }
         ensures over { detector_of self.new ≡ detector_of self.old }
+        ensures buffer { buffer_of self.new ≡ buffer_of self.old }
     {
         let settled = self.book.settle(self.gathered.list());
         self.gathered.drop_list();
@@ -128,6 +137,7 @@ impl<D: Detector> Session<D> {
     fn write(&mut self) -> Outcome
         ensures outcome { turn result self.new ≡ write_order (state_of self.old) }
         ensures over { detector_of self.new ≡ detector_of self.old }
+        ensures buffer { buffer_of self.new ≡ buffer_after (buffer_of self.old) (state_of self.old).rows }
     {
         match self.book.write(self.buffer.as_mut_slice()) {
             Ok(length) => Outcome::Written(length),
@@ -135,7 +145,7 @@ impl<D: Detector> Session<D> {
         }
     }
 
-    /// The first bytes of the buffer. Behind a command that was answered with `Written(length)` these are the book as it is written.
+    /// The first bytes of the buffer. Behind a command that was answered with `Written(length)` these are the book as it is written, until it is written again.
     pub fn written(&self, length: usize) -> &[u8]
         ensures { result.now ≡ take length (buffer_of self.now) }
     {
