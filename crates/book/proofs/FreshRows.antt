@@ -1,5 +1,6 @@
 -- Rows are added one by one.
-use Rattle.std.proofs.Common.{◌≡◌, ℕ, ◌+◌, ◌-◌, ◌<◌, ◌≤◌, true, false, cond, List, [], ◌∷◌, ◌++◌, length, drop, get_or, sym, ap, ◌∙◌, arith}
+use Rattle.std.proofs.Common.{◌≡◌, ℕ, ◌+◌, ◌-◌, ◌<◌, ◌≤◌, true, false, ◌||◌, cond, List, [], ◌∷◌, ◌++◌, length, drop, get_or, sym, refl, ap, ◌∙◌, arith}
+use Rattle.std.specs.List.{list_any}
 use mathlib.Core.List.{append_assoc, append-nil}
 use Rattle.std.proofs.Math.ListN.{length-append}
 use Rattle.std.proofs.lemmas.Bool.Decides.{nat_tests}
@@ -8,6 +9,11 @@ use Rattle.model.specs.declared.row.Row.{Row}
 use Rattle.model.specs.Rows.{same_row}
 use Rattle.first_come.specs.Arrivals.{has}
 use Rattle.book.specs.Adding.{fresh, overfull}
+
+-- a list holds a row if one of its rows is the same
+pub any_same : (rows : List Row) (r : Row) → list_any (λ own. same_row own r) rows ≡ has same_row rows r
+any_same [] r = refl
+any_same (x ∷ rows) r = ap (λ b. same_row x r || b) (any_same rows r)
 
 -- the rows that are held now, with those that are still to come of the list from a place on
 unfoldable pub in_the_end : List Row → List Row → ℕ → List Row

@@ -19,10 +19,11 @@ use Rattle.model.proofs.Progressions.{smaller_applicable, smaller_progression, s
 use Rattle.detector.specs.Laws.{Lawful, EqualMeaning, EqualMeaningKeepsTheLaws}
 use Rattle.detector.proofs.EqualMeaning.{keeps_the_laws}
 use Rattle.book.specs.Laws.{NoStateWithARowOfTheSetHasAPlan, BookIsLawful, StaysLawful}
-use Rattle.book.specs.Rules.{covers, keeps_rules, KeepsBothRules}
+use Rattle.rules.specs.Rules.{covers, keeps_rules, KeepsBothRules}
 use Rattle.book.specs.Verdicts.{book_dead}
-use Rattle.book.proofs.Members.{among_right, covering, covered, covers_both}
-use Rattle.book.proofs.RuleLaws.{rules_at, rules_from, rules_told, rule_2_at, rule_2_from, rule_2_in_the_book}
+use Rattle.rules.proofs.Members.{among_right, covering, covered, covers_both}
+use Rattle.rules.proofs.RuleLaws.{rules_at, rules_from, rules_told, rule_2_at, rule_2_from}
+use Rattle.book.proofs.InTheBook.{rule_2_in_the_book}
 
 -- entries that a third row has both do not differ
 agree_in : (a b e : Option ℕ) → keeps a e ≡ true → keeps b e ≡ true → differ a b ≡ false
@@ -37,7 +38,7 @@ contains_no_two r g t apart within goal =
     let found = (any_below_decides (λ i. differ (at r i) (at g i)) 32).0 apart in
     both_ways _ (agree_in (at r found.0) (at g found.0) (at t found.0) (contained_at r t within found.0 found.1) (contained_at g t goal found.0 found.1)) found.2
 
-row_of_state : (d : ModelRecord) (s : Row) → state_of_model d s ≡ true → row_of_model d s ≡ true
+pub row_of_state : (d : ModelRecord) (s : Row) → state_of_model d s ≡ true → row_of_model d s ≡ true
 row_of_state d s state = (and_parts (row_of_model d s) (complete d.variables s) state).0
 
 module _ (d : ModelRecord) (dead : Row → Bool) (set : List Row) (sealed : Sealed d) (laws : Lawful d dead) (both : KeepsBothRules d dead set) where
@@ -91,7 +92,7 @@ module _ (d : ModelRecord) (dead : Row → Bool) (rows more : List Row) where
   pub book_in_two : EqualMeaning d d (book_dead d (book_dead d dead rows) more) (book_dead d dead (rows ++ more))
   book_in_two = record {
     same_model = refl;
-    same_dead_rows = λ t. one_book (dead t) (row_of_model d t) (covers rows t) (covers more t) (covers (rows ++ more) t) (covers_both rows more t);
+    same_dead_rows = λ t _. one_book (dead t) (row_of_model d t) (covers rows t) (covers more t) (covers (rows ++ more) t) (covers_both rows more t);
   }
 
   -- and its rows keep both rules over the book with these rows

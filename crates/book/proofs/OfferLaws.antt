@@ -27,11 +27,11 @@ use Rattle.book.specs.Adding.{fresh, room_checked}
 use Rattle.book.specs.Laws.{TogetherTheyKeepTheRulesAndFit, PassesExactly}
 use Rattle.book.specs.Offers.{length_checked, in_row, entries_checked, list_checked, rule_1_checked, rule_2_checked, rows_checked, offer_checked, offer_answer}
 use Rattle.book.specs.Refusals.{Checked, refused, unless_row, unless_step}
-use Rattle.book.specs.Rules.{keeps_rule_1, stays_in, keeps_rule_2, keeps_rules}
-use Rattle.book.specs.Searches.{first_failing, first_failing_pair, or_later}
+use Rattle.rules.specs.Rules.{keeps_rule_1, stays_in, keeps_rule_2, keeps_rules}
+use Rattle.rules.specs.Searches.{first_failing, first_failing_pair, or_later}
 use Rattle.book.specs.Settles.{left_unmarked, settle_checked}
-use Rattle.book.proofs.Members.{Within, among_left, among_right, among_cases, all_from, all_both}
-use Rattle.book.proofs.RuleLaws.{rules_at, rules_from, rules_told, rules_hold, rules_by_members, rule_2_in_more}
+use Rattle.rules.proofs.Members.{Within, among_left, among_right, among_cases, all_from, all_both}
+use Rattle.rules.proofs.RuleLaws.{rules_at, rules_from, rules_told, rules_hold, rules_by_members, rule_2_in_more}
 
 -- checks one after another
 module _ {U : Type 0} where

@@ -16,13 +16,13 @@ use Rattle.book.specs.Laws.{StaysLawful}
 use Rattle.book.specs.Offers.{list_checked, rows_checked, offer_checked, offer_answer, offer_rows}
 use Rattle.refusal.specs.declared.Refusal.TheVariants.{LeadsOut}
 use Rattle.book.specs.Refusals.{Checked, refused_step}
-use Rattle.book.specs.Rules.{keeps_rule_1, keeps_rules, stays_in}
-use Rattle.book.specs.Searches.{first_failing, first_failing_pair}
+use Rattle.rules.specs.Rules.{keeps_rule_1, keeps_rules, stays_in}
+use Rattle.rules.specs.Searches.{first_failing, first_failing_pair}
 use Rattle.book.specs.Settles.{unmarked_at_start, after_rounds, round_count, most_rounds, left_unmarked, rounds, settle_checked, settle_answer, settle_rows}
 use Rattle.book.specs.Verdicts.{book_dead}
 use Rattle.book.proofs.NoPlan.{stays_lawful}
 use Rattle.book.proofs.OfferLaws.{list_fit, offer_fit, settle_fit, fresh_fit, added_fit, added_once, offered_rules}
-use Rattle.book.proofs.RuleLaws.{rule_2_in_the_book}
+use Rattle.book.proofs.InTheBook.{rule_2_in_the_book}
 use Rattle.book.proofs.SettleLaws.{unmarked_fit, unmarked_rules}
 
 -- A search finds alike by tests that agree.
@@ -33,7 +33,7 @@ module _ {Y : Type 0} where
   failing_alike f g n (y ∷ ys) agree = rw (agree y (inl refl), failing_alike f g (n + 1) ys (λ z a. agree z (inr a)))
 
 module _ {X Y : Type 0} where
-  pairs_alike : (f g : X → Y → Bool) (ys : List Y) (n : ℕ) (xs : List X) → ((x : X) → Among xs x → (y : Y) → Among ys y → f x y ≡ g x y) → first_failing_pair f ys n xs ≡ first_failing_pair g ys n xs
+  pub pairs_alike : (f g : X → Y → Bool) (ys : List Y) (n : ℕ) (xs : List X) → ((x : X) → Among xs x → (y : Y) → Among ys y → f x y ≡ g x y) → first_failing_pair f ys n xs ≡ first_failing_pair g ys n xs
   unfolding first_failing_pair
   pairs_alike f g ys n [] agree = refl
   pairs_alike f g ys n (x ∷ xs) agree = rw (failing_alike (f x) (g x) 0 ys (agree x (inl refl)), pairs_alike f g ys (n + 1) xs (λ z a. agree z (inr a)))

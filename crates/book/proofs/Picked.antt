@@ -4,7 +4,7 @@ use Rattle.std.proofs.lemmas.Bool.{cond_both, false≢true}
 use Rattle.std.specs.List.{filter}
 use Rattle.model.specs.Members.{Among}
 use Rattle.book.specs.Laws.{picked, WithinPlaces}
-use Rattle.book.proofs.Members.{Within}
+use Rattle.rules.proofs.Members.{Within}
 
 module _ {X : Type 0} where
   pub picked_from : (choice : List Bool) (xs : List X) → Within (picked choice xs) xs

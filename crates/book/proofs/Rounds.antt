@@ -4,9 +4,9 @@ use Rattle.std.proofs.lemmas.List.{length-take-le}
 use Rattle.std.proofs.lemmas.Bool.{cases_Bool}
 use Rattle.model.specs.declared.row.Row.{Row}
 use Rattle.model.specs.Records.{ModelRecord}
-use Rattle.book.specs.Rules.{keeps_rule_1, keeps_rule_2}
+use Rattle.rules.specs.Rules.{keeps_rule_1, keeps_rule_2}
 use Rattle.book.specs.Settles.{unmarked_at_start, after_round, marks_nothing, after_rounds, round_count, most_rounds}
-use Rattle.book.proofs.Members.{filter_all, length_filtered, filter_drops}
+use Rattle.rules.proofs.Members.{filter_all, length_filtered, filter_drops}
 
 module _ (d : ModelRecord) (calls : Row → Bool) (list : List Row) where
   -- the round of this number is to come, and these candidates are unmarked

@@ -12,14 +12,15 @@ use Rattle.book.specs.Adding.{fresh, room_checked}
 use Rattle.book.specs.Laws.{picked, WithinPlaces, SettlesTheLargestSelection}
 use Rattle.book.specs.Offers.{length_checked, entries_checked, list_checked, offer_checked, offer_answer, offer_rows}
 use Rattle.book.specs.Refusals.{Checked}
-use Rattle.book.specs.Rules.{keeps_rule_1, keeps_rule_2, keeps_rules}
+use Rattle.rules.specs.Rules.{keeps_rule_1, keeps_rule_2, keeps_rules}
 use Rattle.book.specs.Settles.{unmarked_at_start, after_round, marks_nothing, after_rounds, most_rounds, left_unmarked, settle_checked, settle_answer, settle_rows}
 use Rattle.book.specs.Verdicts.{book_dead}
-use Rattle.book.proofs.Members.{Within, all_from, filtered_from, filtered_among, filtered_twice, length_filtered, filter_drops}
+use Rattle.rules.proofs.Members.{Within, all_from, filtered_from, filtered_among, filtered_twice, length_filtered, filter_drops}
 use Rattle.book.proofs.NoPlan.{rules_in_the_book}
 use Rattle.book.proofs.OfferLaws.{ok_parts, answer_given, short_list, room_left, settle_fit, added_rules, rules_together, offer_passes, passes_offer}
 use Rattle.book.proofs.Picked.{picked_from, filter_picks, one_for_each, picked_within}
-use Rattle.book.proofs.RuleLaws.{rules_at, rules_told, rules_hold, rule_2_at, rule_2_from, rule_2_in_more, rule_2_in_the_book}
+use Rattle.rules.proofs.RuleLaws.{rules_at, rules_told, rules_hold, rule_2_at, rule_2_from, rule_2_in_more}
+use Rattle.book.proofs.InTheBook.{rule_2_in_the_book}
 
 -- what holds where nothing stands against it holds of what is then answered
 if_answered : {Q : Type 0} (a : Checked) (told : Settled) → (is_ok a ≡ true → Q) → IfOk (result_and a (Ok told)) (λ _. Q)

@@ -1,14 +1,16 @@
 -- What the verdicts of a book are worth, and what its orders do, apart from how they do it.
-use Rattle.std.specs.Prelude.{◌≡◌, ◌<◌, ◌≤◌, ℕ, ◌+◌, Bool, true, false, cond, List, [], ◌∷◌, ◌++◌, length, Ok, is_ok, slice_index_or}
+use Rattle.std.specs.Prelude.{◌≡◌, ◌<◌, ◌≤◌, ℕ, ◌+◌, Bool, true, false, cond, List, [], ◌∷◌, ◌++◌, length, take, Ok, Result, is_ok, slice_index_or}
 use Rattle.model.specs.declared.row.Row.{Row}
 use Rattle.model.specs.Rows.{contained}
 use Rattle.model.specs.Members.{Among}
-use Rattle.model.specs.Plans.{Plan}
+use Rattle.model.specs.Plans.{Plan, ShortestPlan}
 use Rattle.model.specs.Records.{ModelRecord, Sealed, row_of_model, state_of_model}
 use Rattle.detector.specs.Laws.{Lawful}
 use Rattle.book.specs.Adding.{fresh}
+use Rattle.refusal.specs.declared.Refusal.{Refusal}
+use Rattle.book.specs.Probes as probes
 use Rattle.book.specs.Offers.{offer_checked, offer_answer, offer_rows}
-use Rattle.book.specs.Rules.{KeepsBothRules}
+use Rattle.rules.specs.Rules.{KeepsBothRules}
 use Rattle.book.specs.Settles.{left_unmarked, settle_rows}
 use Rattle.book.specs.Verdicts.{book_dead}
 
@@ -58,3 +60,10 @@ pub record SettlesTheLargestSelection (d : ModelRecord) (dead : Row → Bool) (r
   pub would_have_passed : offer_answer d dead rows (picked places list) ≡ Ok (length (fresh rows (picked places list)))
   pub adding_the_same : offer_rows d dead rows (picked places list) ≡ settle_rows d dead rows list
   pub others_lie_within : (chosen : List Bool) → is_ok (offer_checked d dead rows (picked chosen list)) ≡ true → WithinPlaces list chosen places
+
+-- What a probe of the row t told is true, where `buffer` is what its plan buffer holds then.
+pub record ProbeIsRight (d : ModelRecord) (t : Row) (told : Result probes.ProbeTold Refusal) (buffer : List ℕ) : Type 0 where
+  -- a state that is called dead has no plan
+  pub dead_has_no_plan : (states rows entries : ℕ) → told ≡ Ok (probes.called_dead states rows entries) → (ns : List ℕ) → Plan d t ns → ⊥
+  -- the n moves at the front of the buffer are a shortest plan
+  pub moves_are_a_shortest_plan : (states n : ℕ) → told ≡ Ok (probes.has_plan states n) → (length (take n buffer) ≡ n) × ShortestPlan d t (take n buffer)

@@ -1,10 +1,9 @@
-pub mod Searches
-pub mod Rules
 pub mod Refusals
 pub mod Verdicts
 pub mod Adding
 pub mod Offers
 pub mod Settles
+pub mod Probes
 pub mod Written
 pub mod Books
 pub mod Laws

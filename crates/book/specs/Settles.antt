@@ -6,7 +6,7 @@ use Rattle.model.specs.declared.row.Row.{Row}
 use Rattle.model.specs.Records.{ModelRecord}
 use Rattle.book.specs.declared.refused.Refused.{Refused}
 use Rattle.book.specs.declared.settled.Settled.{Settled}
-use Rattle.book.specs.Rules.{keeps_rule_1, keeps_rule_2}
+use Rattle.rules.specs.Rules.{keeps_rule_1, keeps_rule_2}
 use Rattle.book.specs.Refusals.{Checked}
 use Rattle.book.specs.Adding.{fresh, room_checked}
 use Rattle.book.specs.Offers.{list_checked}

@@ -9,7 +9,7 @@ use Rattle.model.specs.Records.{ModelRecord, row_of_model}
 use Rattle.model.specs.WrongEntries.{row_checked}
 use Rattle.detector.specs.declared.verdict.Verdict.{Verdict}
 use Rattle.detector.specs.Verdicts.{says_dead}
-use Rattle.book.specs.Rules.{covers}
+use Rattle.rules.specs.Rules.{covers}
 
 -- the detector does, or one of the book's rows is contained in it; a row with a wrong entry is not called dead if the detector calls dead only rows
 -- of its model

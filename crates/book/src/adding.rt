@@ -10,7 +10,7 @@ use model::row::Row;
 use refusal::Refusal;
 
 /// Whether the row is one of these.
-#[tactic(auto, using(crate::proofs::Searches::any_same))]
+#[tactic(auto, using(crate::proofs::FreshRows::any_same))]
 fn holds(rows: &[Row], row: &Row) -> bool
     ensures { result ≡ has same_row rows.now row.now }
 {

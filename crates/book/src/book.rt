@@ -4,7 +4,7 @@ ghost use Rattle.std.specs.List.{list_all};
 ghost use Rattle.model.specs.Records.{row_of_model};
 ghost use Rattle.model.specs.Rows.{same_row};
 ghost use Rattle.first_come.specs.Arrivals.{Distinct, distinct_prop};
-ghost use Rattle.book.specs.Rules.{keeps_rules};
+ghost use Rattle.rules.specs.Rules.{keeps_rules};
 
 use detector::Detector;
 use model::row::Row;

@@ -4,9 +4,10 @@
 mod adding;
 pub mod book;
 mod checking;
+pub mod probed;
 pub mod refused;
-mod rules;
 pub mod settled;
 mod settling;
 mod sifted;
+mod taking;
 mod writing;

@@ -3,10 +3,10 @@
 ghost use Rattle.std.specs.Prelude.{◌≡◌, ◌≤◌, length, take};
 ghost use Rattle.book.specs.Settles.{after_round, after_rounds, most_rounds, round_count, unmarked_at_start};
 
-use crate::rules::keeps_rule_2;
 use crate::sifted::Sifted;
 use detector::Detector;
 use model::row::Row;
+use rules::set::keeps_rule_2;
 
 /// Copies the candidates that disagree with the goal to the front; how many there are.
 fn keep_start<B: Detector>(book: &B, candidates: &[Row], front: &mut [Row]) -> usize

@@ -12,10 +12,14 @@ pub record Lawful (d : ModelRecord) (dead : Row → Bool) : Type 0 where
   -- no state in the set has a plan
   pub dead_states_have_no_plan : (s : Row) → state_of_model d s ≡ true → dead s ≡ true → (ns : List ℕ) → Plan d s ns → ⊥
 
--- detectors of equal meaning have the same model and the same dead set
+-- the dead set has rows of the model d alone, as that of every detector does
+abbrev pub RowsOfTheModelAlone : ModelRecord → (Row → Bool) → Type 0
+RowsOfTheModelAlone d dead = (t : Row) → dead t ≡ true → row_of_model d t ≡ true
+
+-- detectors of equal meaning have the same model, and call the same of its rows dead
 pub record EqualMeaning (d e : ModelRecord) (dead gone : Row → Bool) : Type 0 where
   pub same_model : d ≡ e
-  pub same_dead_rows : (t : Row) → dead t ≡ gone t
+  pub same_dead_rows : (t : Row) → row_of_model d t ≡ true → dead t ≡ gone t
 
 -- so where the one keeps the laws, the other does
 unfoldable pub EqualMeaningKeepsTheLaws : Type 0

@@ -6,7 +6,7 @@ use Rattle.std.proofs.lemmas.List.{get_or_past}
 use Rattle.model.specs.declared.row.Row.{Row}
 use Rattle.model.specs.declared.moves.Move.{Move}
 use Rattle.model.specs.declared.variable.Variable.{Variable}
-use Rattle.model.specs.Rows.{at, keeps, differ, disagree}
+use Rattle.model.specs.Rows.{at, keeps, differ, contained, disagree}
 use Rattle.model.specs.Moves.{or_else, next_entry, applicable, progression, successor}
 use Rattle.model.specs.Limits.{size_at, entry_fits, row_fits, move_fits, complete, no_variable}
 use Rattle.model.specs.Records.{ModelRecord, state_of_model}
@@ -56,9 +56,20 @@ entry_fits_none : (e : Option ℕ) → entry_fits 0 e ≡ true → e ≡ None
 entry_fits_none None h = refl
 entry_fits_none (Some v) h = grind (arith, nat_tests)
 
+keeps_fits : (n : ℕ) (a b : Option ℕ) → keeps a b ≡ true → entry_fits n b ≡ true → entry_fits n a ≡ true
+keeps_fits n None b k h = refl
+keeps_fits n (Some v) None k h = cc
+keeps_fits n (Some v) (Some w) k h = grind (arith, nat_tests)
+
 module _ (vs : List Variable) where
   pub fits_at : (row : Row) → row_fits vs row ≡ true → (i : ℕ) → i < 32 → entry_fits (size_at vs i) (at row i) ≡ true
   fits_at row fits = (all_below_decides (λ i. entry_fits (size_at vs i) (at row i)) 32).0 fits
+
+  -- what is contained in a row over the variables is one
+  pub contained_fits : (r t : Row) → contained r t ≡ true → row_fits vs t ≡ true → row_fits vs r ≡ true
+  contained_fits r t within fits =
+      (all_below_decides (λ i. entry_fits (size_at vs i) (at r i)) 32).1
+      (λ i l. keeps_fits (size_at vs i) (at r i) (at t i) (contained_at r t within i l) (fits_at t fits i l))
 
   -- a row gives nothing past the variables
   open_past_variables : (row : Row) → row_fits vs row ≡ true → (i : ℕ) → i < 32 → length vs ≤ i → at row i ≡ None

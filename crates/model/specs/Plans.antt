@@ -1,5 +1,5 @@
 -- Plans: lists of moves, by their numbers, that lead from a state to one that contains the goal.
-use Rattle.std.specs.Prelude.{◌≡◌, ℕ, true, List, [], ◌∷◌, length, Some}
+use Rattle.std.specs.Prelude.{◌≡◌, ℕ, ◌≤◌, true, List, [], ◌∷◌, length, Some}
 use Rattle.std.specs.List.{slice_get}
 use Rattle.model.specs.declared.row.Row.{Row}
 use Rattle.model.specs.declared.moves.Move.{Move}
@@ -19,3 +19,8 @@ Plan d s ns = (t : Row) × Leads d s ns t × (contained d.goal t ≡ true)
 -- the length of a plan is the number of its moves
 abbrev pub plan_length : List ℕ → ℕ
 plan_length ns = length ns
+
+-- a plan, and no plan is shorter
+pub record ShortestPlan (d : ModelRecord) (s : Row) (ns : List ℕ) : Type 0 where
+  pub is_a_plan : Plan d s ns
+  pub none_is_shorter : (others : List ℕ) → Plan d s others → length ns ≤ length others

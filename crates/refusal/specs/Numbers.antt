@@ -1,7 +1,7 @@
 -- The number of each refusal.
 use Rattle.std.specs.Prelude.{ℕ}
 use Rattle.refusal.specs.declared.Refusal.{Refusal}
-use Rattle.refusal.specs.declared.Refusal.TheVariants.{SheetEnds, UnknownCommand, OutOfTurn, TooMany, SizeOutOfRange, NoSuchVariable, ValueTooLarge, EntryTwice, StartIncomplete, UnknownKind, WrongOperands, MeetsGoal, LeadsOut, BookFull, BufferTooShort}
+use Rattle.refusal.specs.declared.Refusal.TheVariants.{SheetEnds, UnknownCommand, OutOfTurn, TooMany, SizeOutOfRange, NoSuchVariable, ValueTooLarge, EntryTwice, StartIncomplete, UnknownKind, WrongOperands, MeetsGoal, LeadsOut, BookFull, OpenEntry, WorkListFull, BufferTooShort}
 
 abbrev pub refusal_number : Refusal → ℕ
 refusal_number SheetEnds = 1
@@ -18,4 +18,6 @@ refusal_number WrongOperands = 11
 refusal_number MeetsGoal = 12
 refusal_number LeadsOut = 13
 refusal_number BookFull = 14
+refusal_number OpenEntry = 15
+refusal_number WorkListFull = 16
 refusal_number BufferTooShort = 17

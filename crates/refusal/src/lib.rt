@@ -35,7 +35,11 @@ pub enum Refusal {
     LeadsOut = 13,
     /// The book would have more than 256 rows.
     BookFull = 14,
-    /// The book as it is written is longer than the buffer for it.
+    /// A probe is given a row that leaves a variable open, so that it is no state.
+    OpenEntry = 15,
+    /// A state must be listed, and the work list has no place left.
+    WorkListFull = 16,
+    /// A plan, or the book as it is written, is longer than the buffer for it.
     BufferTooShort = 17,
 }
 

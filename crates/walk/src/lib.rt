@@ -1,4 +1,9 @@
-//! The states that a walk comes to, as they lie in its first-come list.
+//! A walk over the states of a model, each listed once and taken in order of arrival, to the first that contains the goal.
 #![tactic(auto)]
 
+mod course;
+pub mod ended;
+mod taking;
 pub mod walked;
+pub mod walking;
+mod writing;

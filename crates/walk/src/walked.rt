@@ -5,18 +5,11 @@ ghost use Rattle.walk.specs.SameStates.{same_state_equivalence};
 
 use model::row::Row;
 
-/// A state that a walk has come to, and the way to it.
+/// A state that a walk has come to, and the way to it. Both numbers are 0 for the state from which the walk began.
 #[derive(Clone, Copy)]
 pub struct Walked {
     pub state: Row,
-    /// None for the state from which the walk began.
-    pub way: Option<Way>,
-}
-
-/// How a walk came to a state.
-#[derive(Clone, Copy, Debug, PartialEq, Eq)]
-pub struct Way {
-    /// The place in the list of the state before it. The list lies in lent memory, so that a reference would bind it.
+    /// The place in the list of the state before it.
     pub from: usize,
     /// The number of the move that led here.
     pub by: u8,

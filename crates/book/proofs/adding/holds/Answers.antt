@@ -4,7 +4,7 @@ use borrow.Author.Tests.{tests}
 use Rattle.std.proofs.lemmas.Iterator.{YieldsList-from_slice}
 use Rattle.std.proofs.lemmas.Iterator.Search.{any_from_yields_List}
 use Rattle.model.specs.Rows.{same_row}
-use Rattle.book.proofs.Searches.{any_same}
+use Rattle.book.proofs.FreshRows.{any_same}
 use Rattle.book.proofs.adding.holds.Goals as goal
 
 pub returns : goal.returns

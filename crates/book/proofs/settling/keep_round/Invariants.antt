@@ -1,6 +1,6 @@
 use Rattle.std.proofs.Common.{◌≡◌, ◌≤◌, length, take}
 use Rattle.std.specs.List.{filter}
-use Rattle.book.specs.Rules.{keeps_rule_2}
+use Rattle.rules.specs.Rules.{keeps_rule_2}
 use Rattle.book.proofs.settling.keep_round.Given as goal
 
 abbrev pub invariant-loop-row : goal.invariant-loop-row

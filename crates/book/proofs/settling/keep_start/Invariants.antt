@@ -1,6 +1,6 @@
 use Rattle.std.proofs.Common.{◌≡◌, ◌≤◌, length, take}
 use Rattle.std.specs.List.{filter}
-use Rattle.book.specs.Rules.{keeps_rule_1}
+use Rattle.rules.specs.Rules.{keeps_rule_1}
 use Rattle.book.proofs.settling.keep_start.Given as goal
 
 abbrev pub invariant-loop-candidate : goal.invariant-loop-candidate

@@ -4,7 +4,7 @@ use Rattle.model.specs.declared.row.Row.{Row}
 use Rattle.model.specs.Records.{row_of_model}
 use Rattle.model.specs.Rows.{same_row}
 use Rattle.first_come.specs.Arrivals.{Distinct}
-use Rattle.book.specs.Rules.{keeps_rules}
+use Rattle.rules.specs.Rules.{keeps_rules}
 use Rattle.book.proofs.Orders.{offer_stopped, offer_leaves, offer_answers, offer_adds, offer_keeps_fit, offer_keeps_once, offer_keeps_rules}
 use Rattle.book.proofs.book.Book.add_offered.Goals as goal
 

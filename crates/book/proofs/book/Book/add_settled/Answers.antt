@@ -5,7 +5,7 @@ use Rattle.model.specs.Records.{ModelRecord, row_of_model}
 use Rattle.model.specs.Rows.{same_row}
 use Rattle.first_come.specs.Arrivals.{Distinct}
 use Rattle.book.specs.Offers.{list_checked}
-use Rattle.book.specs.Rules.{keeps_rules}
+use Rattle.rules.specs.Rules.{keeps_rules}
 use Rattle.book.specs.Settles.{left_unmarked}
 use Rattle.book.proofs.Orders.{left_are_unmarked, rounds_are_counted, settle_stopped, settle_leaves, settle_answers, settle_full, settle_adds, settle_keeps_fit, settle_keeps_once, settle_keeps_the_rules}
 use Rattle.book.proofs.book.Book.add_settled.Goals as goal

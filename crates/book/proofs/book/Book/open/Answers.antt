@@ -4,7 +4,7 @@ use Rattle.model.specs.declared.row.Row.{Row}
 use Rattle.model.specs.Records.{ModelRecord, row_of_model}
 use Rattle.model.specs.Rows.{same_row}
 use Rattle.first_come.specs.Arrivals.{Distinct}
-use Rattle.book.specs.Rules.{keeps_rules}
+use Rattle.rules.specs.Rules.{keeps_rules}
 use Rattle.book.proofs.NoPlan.{book_lawful}
 use Rattle.book.proofs.book.Book.open.Goals as goal
 

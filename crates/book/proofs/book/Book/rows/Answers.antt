@@ -1,4 +1,4 @@
-use Rattle.book.proofs.RuleLaws.{rules_told}
+use Rattle.rules.proofs.RuleLaws.{rules_told}
 use Rattle.book.proofs.book.Book.rows.Goals as goal
 
 pub returns-clause-rules : goal.returns-clause-rules

@@ -1,0 +1,4 @@
+pub mod Parts
+pub mod Learns
+pub mod Learneds
+pub mod Laws

@@ -1,0 +1,89 @@
+//! The two rules that bind a set of rows.
+ghost use Rattle.std.specs.Prelude.{◌≡◌, ◌++◌};
+ghost use Rattle.rules.specs.Rules.{covers, keeps_rule_1, keeps_rule_2, stays_in};
+ghost use Rattle.rules.specs.Searches.{first_failing, first_failing_pair};
+
+use detector::Detector;
+use model::moves::Move;
+use model::row::Row;
+
+/// Whether one row of the set is contained in the row.
+pub fn covers(set: &[Row], row: &Row) -> bool
+    ensures { result ≡ covers set.now row.now }
+{
+    set.iter().any(|own| own.contained_in(row))
+}
+
+/// Whether the row to which the move leads is called dead or contains a row of the set; also true of a move that is not applicable.
+fn stays_in<D: Detector>(detector: &D, set: &[Row], row: &Row, step: &Move) -> bool
+    ensures { result ≡ stays_in (D.dead detector.now) set.now row.now step.now }
+{
+    stays_in_both(detector, set, &[], row, step)
+}
+
+/// The same of the set that two lists make up.
+#[tactic(auto, using(crate::proofs::RuleLaws::sets_first))]
+fn stays_in_both<D: Detector>(
+    detector: &D,
+    set: &[Row],
+    more: &[Row],
+    row: &Row,
+    step: &Move,
+) -> bool
+    ensures { result ≡ stays_in (D.dead detector.now) (set.now ++ more.now) row.now step.now }
+{
+    if !step.applicable(row) {
+        return true;
+    }
+    let next = step.progression(row);
+    // The set first: a verdict may cost much more.
+    covers(set, &next) || covers(more, &next) || detector.verdict(&next).is_dead()
+}
+
+/// Whether the row keeps rule 2 in the set.
+pub fn keeps_rule_2<D: Detector>(detector: &D, set: &[Row], row: &Row) -> bool
+    ensures { result ≡ keeps_rule_2 (D.carried detector.now) (D.dead detector.now) set.now row.now }
+{
+    keeps_rule_2_in_both(detector, set, &[], row)
+}
+
+/// Whether the row keeps rule 2 in the set that two lists make up.
+#[tactic(auto, unfolding(crate::specs::Rules::keeps_rule_2))]
+pub fn keeps_rule_2_in_both<D: Detector>(detector: &D, set: &[Row], more: &[Row], row: &Row) -> bool
+    ensures { result ≡ keeps_rule_2 (D.carried detector.now) (D.dead detector.now) (set.now ++ more.now) row.now }
+{
+    detector
+        .model()
+        .moves()
+        .iter()
+        .all(|step| stays_in_both(detector, set, more, row, step))
+}
+
+/// The lowest row of the list that breaks rule 1.
+pub fn first_meeting_goal<D: Detector>(detector: &D, list: &[Row]) -> Option<usize>
+    ensures { result ≡ first_failing (keeps_rule_1 (D.carried detector.now)) 0 list.now }
+{
+    let goal = detector.model().goal();
+    for (place, row) in list.iter().enumerate() {
+        if !row.disagrees(goal) {
+            return Some(place);
+        }
+    }
+    None
+}
+
+/// The lowest row of the set that breaks rule 2 in it, and of its moves the lowest that leads out.
+pub fn first_leading_out<D: Detector>(detector: &D, set: &[Row]) -> Option<(usize, usize)>
+    ensures { result ≡ first_failing_pair (stays_in (D.dead detector.now) set.now) (D.carried detector.now).moves 0 set.now }
+{
+    'rows: {
+        for (place, row) in set.iter().enumerate() {
+            for (number, step) in detector.model().moves().iter().enumerate() {
+                if !stays_in(detector, set, row, step) {
+                    break 'rows Some((place, number));
+                }
+            }
+        }
+        None
+    }
+}

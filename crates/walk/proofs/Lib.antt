@@ -1,0 +1,9 @@
+pub mod Ways
+pub mod Sound
+pub mod Shortest
+pub mod Closed
+pub mod WalkLaws
+pub mod Buffers
+pub mod Steps
+pub mod PlanBytes
+pub mod WholeWalks
