@@ -1,0 +1,10 @@
+pub mod Runs
+pub mod Kept
+pub mod Questions
+pub mod ProbedDead
+pub mod StaysDead
+pub mod Shortest
+pub mod Largest
+pub mod ReadBack
+pub mod Promise
+pub mod RunSteps

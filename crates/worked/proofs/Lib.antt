@@ -1,0 +1,2 @@
+pub mod SameLists
+pub mod ShowExamples
