@@ -1,5 +1,5 @@
 pub mod Accepting
-pub mod Hexadecimal
+pub mod OneMore
 pub mod ModelRun
 pub mod SheetOpens
 pub mod DetectorRun
@@ -8,3 +8,4 @@ pub mod StandInOrder
 pub mod OpensInOrder
 pub mod OrderRun
 pub mod SheetRun
+pub mod PromiseRun

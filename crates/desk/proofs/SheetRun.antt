@@ -8,9 +8,8 @@ use Rattle.detectors.specs.declared.shipped.Shipped.{Shipped}
 use Rattle.detectors.specs.Shipping.{shipped_model, shipped_dead, detector_told, told_dead, MeansWhatIsTold}
 use Rattle.session.specs.Orders.{State}
 use Rattle.session.specs.Sessions.{fresh_state}
-use Rattle.desk.specs.declared.carrying.Ending.{Ending}
 use Rattle.desk.specs.Lines.{Said, model_line, printed}
-use Rattle.desk.specs.Carrying.{order_lines, order_ending, opened_lines, opened_ending, printed_of, ending_of}
+use Rattle.desk.specs.Carrying.{order_lines, opened_lines, printed_of}
 use Rattle.desk.specs.Openings.{orders, opening}
 use Rattle.desk.proofs.OrderRun.{printed_both}
 
@@ -31,10 +30,3 @@ module _ (sheet : List ℕ) (s : Shipped) (place : ℕ) (opens : orders (shipped
         subst (Appends a c)
         (sym (printed_both (line ∷ []) _) ∙ ap (λ ls. printed ls) (λ i. told i ∷ orders_printed i) ∙ ap (λ o. printed (opened_lines sheet o)) opens)
         (Appends-trans a b c (printed (line ∷ [])) (printed (order_lines (shipped_model t) (shipped_dead t) (length sheet) first (commands_from sheet place))) before after)
-
-    pub sheet_ends : (e : Ending) → e ≡ order_ending (shipped_model t) (shipped_dead t) first (commands_from sheet place) → e ≡ ending_of sheet
-    sheet_ends e is =
-        is
-        ∙ (λ i. order_ending (shipped_model (over i)) (shipped_dead (over i)) (fresh i) (commands_from sheet place))
-        ∙ ap (λ (dead : Row → Bool). order_ending (shipped_model s) dead fresh_state (commands_from sheet place)) same_dead
-        ∙ ap (opened_ending sheet) opens

@@ -7,3 +7,4 @@ pub mod Openings
 pub mod Told
 pub mod InOrder
 pub mod Carrying
+pub mod Promise

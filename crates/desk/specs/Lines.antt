@@ -7,13 +7,15 @@ use Rattle.model.specs.Records.{ModelRecord}
 use Rattle.detector.specs.Verdicts.{says_dead}
 use Rattle.book.specs.declared.refused.Refused as order
 use Rattle.desk.specs.declared.lines.Line.{Line}
-use Rattle.desk.specs.declared.lines.Line.TheVariants.{Model, Judge, Offer, Settle, Write, Refused, Stop, End}
+use Rattle.desk.specs.declared.lines.Line.TheVariants.{Model, Judge, ProbeDead, ProbePlan, Offer, Settle, Write, Refused, Stop, End}
 use Rattle.desk.specs.declared.opening.Stop as opening
 
--- what a line tells; the bytes of the book are a list here, while a `Line` borrows them
+-- what a line tells; the moves of a plan and the bytes of the book are lists here, while a `Line` borrows them
 pub data Said : Type 0 where
   model : ℕ → ℕ → Said
   judge : Bool → Said
+  probe_dead : ℕ → ℕ → ℕ → Said
+  probe_plan : ℕ → ℕ → List ℕ → Said
   offer : ℕ → Said
   settle : ℕ → ℕ → Said
   write : List ℕ → Said
@@ -24,6 +26,8 @@ pub data Said : Type 0 where
 abbrev pub line_told : Line → Said
 line_told (Model variables moves) = model variables moves
 line_told (Judge verdict) = judge (says_dead verdict)
+line_told (ProbeDead states rows entries) = probe_dead states rows entries
+line_told (ProbePlan states length moves) = probe_plan states length moves.now
 line_told (Offer added) = offer added
 line_told (Settle added rounds) = settle added rounds
 line_told (Write bytes) = write bytes.now
@@ -45,6 +49,10 @@ stop_line s = stop (refusal_number s.refusal) s.place
 abbrev pub hex_byte : ℕ → List ℕ
 hex_byte b = codes " " ++ digit_char (b / 16) ∷ digit_char (b % 16) ∷ []
 
+-- a move as a space and its number
+abbrev pub move_bytes : ℕ → List ℕ
+move_bytes m = codes " " ++ decimal m
+
 -- a part of a refusal, which may not be told
 abbrev pub part_bytes : Option ℕ → List ℕ
 part_bytes (Some n) = decimal n
@@ -55,6 +63,8 @@ abbrev pub line_bytes : Said → List ℕ
 line_bytes (model variables moves) = codes "model " ++ (decimal variables ++ (codes " " ++ decimal moves))
 line_bytes (judge true) = codes "judge dead"
 line_bytes (judge false) = codes "judge silent"
+line_bytes (probe_dead states rows entries) = codes "probe dead " ++ (decimal states ++ (codes " " ++ (decimal rows ++ (codes " " ++ decimal entries))))
+line_bytes (probe_plan states length moves) = codes "probe plan " ++ (decimal states ++ (codes " " ++ (decimal length ++ flat_map move_bytes moves)))
 line_bytes (offer added) = codes "offer " ++ decimal added
 line_bytes (settle added rounds) = codes "settle " ++ (decimal added ++ (codes " " ++ decimal rounds))
 line_bytes (write bytes) = codes "write" ++ flat_map hex_byte bytes

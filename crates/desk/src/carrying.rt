@@ -1,44 +1,37 @@
 //! A sheet carried out: what it comes to is written line by line.
-ghost use Rattle.std.specs.Prelude.{◌≡◌, [], ◌∷◌, length, IfOk, OnOk};
+ghost use Rattle.std.specs.Prelude.{◌≡◌, [], ◌∷◌, length, OnOk};
 ghost use Rattle.std.specs.Io.KnownBytes.{Appends};
 ghost use Rattle.sheet.specs.Commands.{commands_from};
-ghost use Rattle.session.specs.Sessions.{buffer_of, came, detector_of, state_of};
+ghost use Rattle.orders.specs.Orders.{answer_told};
+ghost use Rattle.session.specs.Orders.{Lent, bytes_told, stops};
+ghost use Rattle.session.specs.Sessions.{came, detector_of, lent_of, state_of};
 ghost use Rattle.desk.specs.Lines.{line_told, printed};
-ghost use Rattle.desk.specs.Carrying.{printed_of, ending_of, ended_by, line_of, order_ending, order_lines};
+ghost use Rattle.desk.specs.Carrying.{answer_line, line_of, order_lines, printed_of};
+ghost use Rattle.desk.specs.Openings.{opening};
+ghost use Rattle.desk.specs.Promise.{SheetKeepsThePromise};
 
 use crate::lines::Line;
 use crate::opening::{Opening, Stop, open_sheet};
+use book::probed::Probed;
 use book::settled::Settled;
 use detector::Detector;
+use orders::answer::Answer;
 use session::outcome::Outcome;
 use session::session::Session;
 use sheet::command_at;
 use std::alloc::Global;
 use std::io;
 
-/// How far a sheet is carried out.
-#[derive(Clone, Copy, Debug, PartialEq, Eq)]
-pub enum Ending {
-    /// To its end, or up to where it is refused.
-    Whole,
-    /// Up to a probe, which is not carried out yet.
-    Probe,
-}
-
 /// Carries out a sheet, and writes the lines that it comes to.
-pub fn carry_out<W: io::Write>(heap: Global, sheet: &[u8], out: &mut W) -> io::Result<Ending>
+pub fn carry_out<W: io::Write>(heap: Global, sheet: &[u8], out: &mut W) -> io::Result<()>
     ensures printed { OnOk result (Appends (W.contents out.old) (W.contents out.new) (printed_of sheet.now)) }
-    ensures ending { IfOk result (λ e. e ≡ ending_of sheet.now) }
+    ensures promise { OnOk result (SheetKeepsThePromise sheet.now (opening sheet.now)) }
 {
     match open_sheet(heap, sheet)? {
-        Opening::Unsealed(stop) => {
-            write_line(out, Line::from(stop))?;
-            Ok(Ending::Whole)
-        }
+        Opening::Unsealed(stop) => write_line(out, Line::from(stop)),
         Opening::Unchosen { model, stop } => {
             write_line(out, Line::from(&model))?;
-            write_line(out, Line::from(stop))?;
-            Ok(Ending::Whole)
+            write_line(out, Line::from(stop))
         }
         Opening::Orders { detector, orders } => {
             write_line(out, Line::from(detector.model()))?;
@@ -54,21 +47,19 @@ fn carry_out_orders<D: Detector, W: io::Write>(
     sheet: &[u8],
     orders: usize,
     out: &mut W,
-) -> io::Result<Ending>
-    ensures printed { OnOk result (Appends (W.contents out.old) (W.contents out.new) (printed (order_lines (D.carried (detector_of session.old)) (D.dead (detector_of session.old)) (length sheet.now) (state_of session.old) (commands_from sheet.now orders)))) }
-    ensures ending { IfOk result (λ e. e ≡ order_ending (D.carried (detector_of session.old)) (D.dead (detector_of session.old)) (state_of session.old) (commands_from sheet.now orders)) }
+) -> io::Result<()>
+    ensures { OnOk result (Appends (W.contents out.old) (W.contents out.new) (printed (order_lines (D.carried (detector_of session.old)) (D.dead (detector_of session.old)) (length sheet.now) (state_of session.old) (commands_from sheet.now orders)))) }
 {
     let mut place = orders;
     while let Some(found) = command_at(sheet, place) {
         let outcome = session.obey(found.command);
         write_outcome(session, outcome, sheet.len(), found.place, out)?;
-        if let Some(ending) = ended_by(outcome) {
-            return Ok(ending);
+        if stops(outcome) {
+            return Ok(());
         }
         place = found.next;
     }
-    write_line(out, Line::End)?;
-    Ok(Ending::Whole)
+    write_line(out, Line::End)
 }
 
 /// Writes the line that tells what came of a command at a place of a sheet of `size` bytes, if one is told.
@@ -79,33 +70,50 @@ fn write_outcome<D: Detector, W: io::Write>(
     place: usize,
     out: &mut W,
 ) -> io::Result<()>
-    ensures { OnOk result (Appends (W.contents out.old) (W.contents out.new) (printed (line_of size place (came (buffer_of session.now) outcome)))) }
+    ensures { OnOk result (Appends (W.contents out.old) (W.contents out.new) (printed (line_of size place (came (lent_of session.now) outcome)))) }
 {
     match outcome {
-        Outcome::Quiet | Outcome::Unserved => Ok(()),
-        Outcome::Judged(verdict) => write_line(out, Line::Judge(verdict)),
-        Outcome::Offered(added) => write_line(out, Line::Offer { added }),
-        Outcome::Settled(Settled { added, rounds }) => write_line(
-            out,
-            Line::Settle { added, rounds },
-        ),
-        Outcome::Written(length) => {
-            let bytes = session.written(length);
-            write_line(out, Line::Write { bytes })
-        }
-        Outcome::Refused(refused) => write_line(out, Line::from(refused)),
+        Outcome::Quiet => Ok(()),
+        Outcome::Answered(answer) => write_line(out, answer_line(session, answer)),
         Outcome::Stopped(refusal) => write_line(out, Line::from(Stop::at(size, place, refusal))),
     }
 }
 
-/// Whether the run ends with what came of a command, and how.
-fn ended_by(outcome: Outcome) -> Option<Ending>
-    ensures { result ≡ ended_by (came [] outcome) }
+/// Whether the run ends with what came of a command.
+fn stops(outcome: Outcome) -> bool
+    ensures { (l : Lent) → result ≡ stops (came l outcome) }
 {
-    match outcome {
-        Outcome::Stopped(_) => Some(Ending::Whole),
-        Outcome::Unserved => Some(Ending::Probe),
-        _ => None,
+    matches!(outcome, Outcome::Stopped(_))
+}
+
+/// The line of an answer to an order that the session gave last.
+fn answer_line<'a, D: Detector>(session: &'a Session<D>, answer: Answer) -> Line<'a>
+    ensures { line_told result ≡ answer_line (answer_told answer) (bytes_told (answer_told answer) (lent_of session.now)) }
+{
+    match answer {
+        Answer::Judged(verdict) => Line::Judge(verdict),
+        Answer::Probed(
+            Probed::Dead {
+                states,
+                rows,
+                entries,
+            },
+        ) => Line::ProbeDead {
+            states,
+            rows,
+            entries,
+        },
+        Answer::Probed(Probed::Plan { states, length }) => Line::ProbePlan {
+            states,
+            length,
+            moves: session.plan(length),
+        },
+        Answer::Offered(added) => Line::Offer { added },
+        Answer::Settled(Settled { added, rounds }) => Line::Settle { added, rounds },
+        Answer::Written(length) => Line::Write {
+            bytes: session.written(length),
+        },
+        Answer::Refused(refused) => Line::from(refused),
     }
 }
 

@@ -3,7 +3,7 @@ ghost use Rattle.std.specs.Prelude.{◌≡◌, Some};
 ghost use Rattle.std.specs.Fmt.{WritesOnOk};
 ghost use Rattle.std.specs.List.{flat_map};
 ghost use Rattle.model.specs.Drafts.{recorded};
-ghost use Rattle.desk.specs.Lines.{hex_byte, part_bytes, line_bytes, line_told, model_line, refused_line, stop_line};
+ghost use Rattle.desk.specs.Lines.{hex_byte, move_bytes, part_bytes, line_bytes, line_told, model_line, refused_line, stop_line};
 
 use crate::opening::Stop;
 use book::refused::Refused;
@@ -21,6 +21,18 @@ pub enum Line<'a> {
     },
     /// The row in hand is judged.
     Judge(Verdict),
+    /// The row in hand is probed, and dead: so many states are listed, so many rows added and so many entries regained.
+    ProbeDead {
+        states: usize,
+        rows: usize,
+        entries: usize,
+    },
+    /// The row in hand is probed: so many states are listed, and these moves are a plan of this length.
+    ProbePlan {
+        states: usize,
+        length: usize,
+        moves: &'a [u8],
+    },
     /// The list is offered, and so many of its rows are new in the book.
     Offer {
         added: usize,
@@ -105,7 +117,7 @@ struct Hex<'a>(&'a [u8]);
 impl<'a> fmt::Display for Hex<'a> {
     ghost output = { λ h. Some (flat_map hex_byte h.0.now) };
 
-    #[tactic(auto, using(crate::proofs::Hexadecimal::hex_more))]
+    #[tactic(auto, using(crate::proofs::OneMore::hex_more))]
     fn fmt<W: fmt::Write>(&self, f: &mut fmt::Formatter<W>) -> fmt::Result {
         for byte in self.0 {
             write_hex(f, *byte)?;
@@ -121,6 +133,22 @@ fn write_hex<W: fmt::Write>(f: &mut fmt::Formatter<W>, byte: u8) -> fmt::Result
     write!(f, " {byte:02x}")
 }
 
+/// Moves by their numbers, each behind a space.
+#[derive(Clone, Copy)]
+struct Moves<'a>(&'a [u8]);
+
+impl<'a> fmt::Display for Moves<'a> {
+    ghost output = { λ m. Some (flat_map move_bytes m.0.now) };
+
+    #[tactic(auto, using(crate::proofs::OneMore::move_more))]
+    fn fmt<W: fmt::Write>(&self, f: &mut fmt::Formatter<W>) -> fmt::Result {
+        for step in self.0 {
+            write!(f, " {step}")?;
+        }
+        Ok(())
+    }
+}
+
 impl<'a> fmt::Display for Line<'a> {
     ghost output = { λ l. Some (line_bytes (line_told l)) };
 
@@ -129,6 +157,16 @@ impl<'a> fmt::Display for Line<'a> {
             Line::Model { variables, moves } => write!(f, "model {variables} {moves}"),
             Line::Judge(Verdict::Dead) => write!(f, "judge dead"),
             Line::Judge(Verdict::Silent) => write!(f, "judge silent"),
+            Line::ProbeDead {
+                states,
+                rows,
+                entries,
+            } => write!(f, "probe dead {states} {rows} {entries}"),
+            Line::ProbePlan {
+                states,
+                length,
+                moves,
+            } => write!(f, "probe plan {states} {length}{}", Moves(moves)),
             Line::Offer { added } => write!(f, "offer {added}"),
             Line::Settle { added, rounds } => write!(f, "settle {added} {rounds}"),
             Line::Write { bytes } => write!(f, "write{}", Hex(bytes)),

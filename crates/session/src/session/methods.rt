@@ -1,35 +1,54 @@
 //! Commands are carried out, one by one.
-ghost use Rattle.std.specs.Prelude.{◌≡◌, replicate, IfOk, take};
+ghost use Rattle.std.specs.Prelude.{◌≡◌, [], IfOk, take};
 ghost use Rattle.sheet.specs.Reading.{told};
-ghost use Rattle.session.specs.Orders.{entry_order, judge_order, next_order, offer_order, order, settle_order, write_order};
-ghost use Rattle.session.specs.Sessions.{buffer_behind, buffer_of, detector_of, fresh_state, state_of, turn};
-ghost use Rattle.book.specs.Written.{buffer_after};
+ghost use Rattle.orders.specs.Orders.{judge, offer, probe, settle, write};
+ghost use Rattle.session.specs.Orders.{command_turn, entry_turn, fresh_lent, next_turn, order_turn};
+ghost use Rattle.orders.specs.WholeRuns.{EveryRunKeepsThePromise};
+ghost use Rattle.session.specs.Sessions.{detector_of, fresh_state, lent_behind, lent_of, state_of, turn};
 ghost use Rattle.session.specs.WrittenBook.{WrittenBookReadsBack};
 
 use super::Session;
 use crate::outcome::Outcome;
 use book::book::Book;
-use book::refused::Refused;
 use detector::Detector;
 use hand::hand::Gathered;
+use model::row::Row;
+use orders::answer::Answer;
 use refusal::Refusal;
 use sheet::Command;
 use std::alloc::{AllocError, Global};
+use walk::walked::Walked;
+
+/// How many states a probe may list.
+const PLACES: usize = 256;
+
+/// How many moves a plan may have.
+const MOVES: usize = 256;
 
 /// How many bytes are lent for the book as it is written.
-const LENT: usize = 32_768;
+const BYTES: usize = 32_768;
 
 impl<D: Detector + Drop> Session<D> {
-    /// A new book over the detector, nothing in hand, and an empty list. All memory that commands can need is taken here.
+    /// A new book over the detector, nothing in hand, and an empty list. All memory that commands can need is taken here. Every run of orders on a new book
+    /// keeps the promise over whole runs.
+    #[tactic(auto, using(orders::proofs::Promise::every_run_keeps_the_promise))]
     pub fn open(heap: Global, detector: D) -> Result<Session<D>, AllocError>
         ensures fresh { IfOk result (λ s. state_of s ≡ fresh_state) }
         ensures over { IfOk result (λ s. detector_of s ≡ detector) }
-        ensures buffer { IfOk result (λ s. buffer_of s ≡ replicate 32768 0) }
+        ensures lent { IfOk result (λ s. lent_of s ≡ fresh_lent) }
+        ensures every_run { EveryRunKeepsThePromise }
     {
+        let unused = Walked {
+            state: Row::open(),
+            from: 0,
+            by: 0,
+        };
         Ok(Session {
             book: Book::open(heap, detector)?,
             gathered: Gathered::open(heap)?,
-            buffer: vec![in heap; 0; LENT]?,
+            work_list: vec![in heap; unused; PLACES]?,
+            plan: vec![in heap; 0; MOVES]?,
+            buffer: vec![in heap; 0; BYTES]?,
         })
     }
 }
@@ -37,28 +56,28 @@ impl<D: Detector + Drop> Session<D> {
 impl<D: Detector> Session<D> {
     /// Carries out a command. What is written of the book as it stood before the command offers the same rows again when it is read.
     pub fn obey(&mut self, command: Command) -> Outcome
-        ensures outcome { turn result self.new ≡ order (D.carried (detector_of self.old)) (D.dead (detector_of self.old)) (state_of self.old) (told command.entry) }
+        ensures outcome { turn result self.new ≡ command_turn (D.carried (detector_of self.old)) (D.dead (detector_of self.old)) fresh_lent (state_of self.old) (told command.entry) }
         ensures over { detector_of self.new ≡ detector_of self.old }
-        ensures buffer { buffer_of self.new ≡ buffer_behind (buffer_of self.old) (state_of self.old) (told command.entry) }
+        ensures lent { lent_of self.new ≡ lent_behind (D.carried (detector_of self.old)) (D.dead (detector_of self.old)) (lent_of self.old) (state_of self.old) (told command.entry) }
         ensures reads_back { WrittenBookReadsBack (D.carried (detector_of self.old)) (state_of self.old).rows }
     {
         self.carry_out(command)
     }
 
-    /// The same, without what is said of reading back.
+    /// The same with what it lends itself, and without what is said of reading back.
     fn carry_out(&mut self, command: Command) -> Outcome
-        ensures outcome { turn result self.new ≡ order (D.carried (detector_of self.old)) (D.dead (detector_of self.old)) (state_of self.old) (told command.entry) }
+        ensures outcome { turn result self.new ≡ command_turn (D.carried (detector_of self.old)) (D.dead (detector_of self.old)) (lent_of self.old) (state_of self.old) (told command.entry) }
         ensures over { detector_of self.new ≡ detector_of self.old }
-        ensures buffer { buffer_of self.new ≡ buffer_behind (buffer_of self.old) (state_of self.old) (told command.entry) }
+        ensures lent { lent_of self.new ≡ lent_behind (D.carried (detector_of self.old)) (D.dead (detector_of self.old)) (lent_of self.old) (state_of self.old) (told command.entry) }
     {
         match command {
             Command::Entry { variable, value } => self.enter(variable, value),
             Command::Next => self.next(),
             Command::Judge => self.judge(),
+            Command::Probe => self.probe(),
             Command::Offer => self.offer(),
             Command::Settle => self.settle(),
             Command::Write => self.write(),
-            Command::Probe => Outcome::Unserved,
             Command::Fault(fault) => Outcome::Stopped(fault.into()),
             _ => Outcome::Stopped(Refusal::OutOfTurn),
         }
@@ -66,9 +85,9 @@ impl<D: Detector> Session<D> {
 
     /// Enters a value in the row in hand.
     fn enter(&mut self, variable: u8, value: u8) -> Outcome
-        ensures outcome { turn result self.new ≡ entry_order (D.carried (detector_of self.old)) (state_of self.old) variable value }
+        ensures outcome { turn result self.new ≡ entry_turn (D.carried (detector_of self.old)) (state_of self.old) variable value }
         ensures over { detector_of self.new ≡ detector_of self.old }
-        ensures buffer { buffer_of self.new ≡ buffer_of self.old }
+        ensures lent { lent_of self.new ≡ lent_of self.old }
     {
         match self
             .gathered
@@ -81,9 +100,9 @@ impl<D: Detector> Session<D> {
 
     /// Moves the row in hand to the list.
     fn next(&mut self) -> Outcome
-        ensures outcome { turn result self.new ≡ next_order (state_of self.old) }
+        ensures outcome { turn result self.new ≡ next_turn (state_of self.old) }
         ensures over { detector_of self.new ≡ detector_of self.old }
-        ensures buffer { buffer_of self.new ≡ buffer_of self.old }
+        ensures lent { lent_of self.new ≡ lent_of self.old }
     {
         match self.gathered.next() {
             Ok(()) => Outcome::Quiet,
@@ -92,63 +111,100 @@ impl<D: Detector> Session<D> {
     }
 
     /// Judges the row in hand, which is dropped then.
+    #[tactic(auto, unfolding(orders::specs::Runs::answer, orders::specs::Runs::rows_after, orders::specs::Runs::left_of))]
     fn judge(&mut self) -> Outcome
-        ensures outcome { turn result self.new ≡ judge_order (D.carried (detector_of self.old)) (D.dead (detector_of self.old)) (state_of self.old) }
+        ensures outcome { turn result self.new ≡ order_turn (D.carried (detector_of self.old)) (D.dead (detector_of self.old)) (state_of self.old) (judge (state_of self.old).gathered.hand) }
         ensures over { detector_of self.new ≡ detector_of self.old }
-        ensures buffer { buffer_of self.new ≡ buffer_of self.old }
+        ensures lent { lent_of self.new ≡ lent_of self.old }
     {
         let judged = self.book.judge(self.gathered.row());
         self.gathered.drop_row();
-        match judged {
-            Ok(verdict) => Outcome::Judged(verdict),
-            Err(refusal) => Outcome::Refused(refusal.into()),
-        }
+        Outcome::Answered(match judged {
+            Ok(verdict) => Answer::Judged(verdict),
+            Err(refusal) => Answer::Refused(refusal.into()),
+        })
+    }
+
+    /// Probes the row in hand, which is dropped then.
+    #[tactic(auto, unfolding(orders::specs::Runs::answer, orders::specs::Runs::rows_after, orders::specs::Runs::left_of))]
+    fn probe(&mut self) -> Outcome
+        ensures outcome { turn result self.new ≡ order_turn (D.carried (detector_of self.old)) (D.dead (detector_of self.old)) (state_of self.old) (probe (state_of self.old).gathered.hand (lent_of self.old).work_list (lent_of self.old).plan) }
+        ensures over { detector_of self.new ≡ detector_of self.old }
+        ensures lent { lent_of self.new ≡ lent_behind (D.carried (detector_of self.old)) (D.dead (detector_of self.old)) (lent_of self.old) (state_of self.old) (0x51, []) }
+    {
+        let Session {
+            book,
+            gathered,
+            work_list,
+            plan,
+            ..
+        } = self;
+        let probed = book.probe(
+            gathered.row(),
+            work_list.as_mut_slice(),
+            plan.as_mut_slice(),
+        );
+        gathered.drop_row();
+        Outcome::Answered(match probed {
+            Ok(probed) => Answer::Probed(probed),
+            Err(refusal) => Answer::Refused(refusal.into()),
+        })
     }
 
     /// Offers the list, which is dropped then.
+    #[tactic(auto, unfolding(orders::specs::Runs::answer, orders::specs::Runs::rows_after, orders::specs::Runs::left_of))]
     fn offer(&mut self) -> Outcome
-        ensures outcome { turn result self.new ≡ offer_order (D.carried (detector_of self.old)) (D.dead (detector_of self.old)) (state_of self.old) }
+        ensures outcome { turn result self.new ≡ order_turn (D.carried (detector_of self.old)) (D.dead (detector_of self.old)) (state_of self.old) (offer (state_of self.old).gathered.list) }
         ensures over { detector_of self.new ≡ detector_of self.old }
-        ensures buffer { buffer_of self.new ≡ buffer_of self.old }
+        ensures lent { lent_of self.new ≡ lent_of self.old }
     {
         let offered = self.book.offer(self.gathered.list());
         self.gathered.drop_list();
-        match offered {
-            Ok(added) => Outcome::Offered(added),
-            Err(refused) => Outcome::Refused(refused),
-        }
+        Outcome::Answered(match offered {
+            Ok(added) => Answer::Offered(added),
+            Err(refused) => Answer::Refused(refused),
+        })
     }
 
     /// Settles the list, which is dropped then.
+    #[tactic(auto, unfolding(orders::specs::Runs::answer, orders::specs::Runs::rows_after, orders::specs::Runs::left_of))]
     fn settle(&mut self) -> Outcome
-        ensures outcome { turn result self.new ≡ settle_order (D.carried (detector_of self.old)) (D.dead (detector_of self.old)) (state_of self.old) }
+        ensures outcome { turn result self.new ≡ order_turn (D.carried (detector_of self.old)) (D.dead (detector_of self.old)) (state_of self.old) (settle (state_of self.old).gathered.list) }
         ensures over { detector_of self.new ≡ detector_of self.old }
-        ensures buffer { buffer_of self.new ≡ buffer_of self.old }
+        ensures lent { lent_of self.new ≡ lent_of self.old }
     {
         let settled = self.book.settle(self.gathered.list());
         self.gathered.drop_list();
-        match settled {
-            Ok(settled) => Outcome::Settled(settled),
-            Err(refused) => Outcome::Refused(refused),
-        }
+        Outcome::Answered(match settled {
+            Ok(settled) => Answer::Settled(settled),
+            Err(refused) => Answer::Refused(refused),
+        })
     }
 
     /// Writes the book into the buffer.
+    #[tactic(auto, unfolding(orders::specs::Runs::answer, orders::specs::Runs::rows_after, orders::specs::Runs::left_of))]
     fn write(&mut self) -> Outcome
-        ensures outcome { turn result self.new ≡ write_order (state_of self.old) }
+        ensures outcome { turn result self.new ≡ order_turn (D.carried (detector_of self.old)) (D.dead (detector_of self.old)) (state_of self.old) (write (lent_of self.old).buffer) }
         ensures over { detector_of self.new ≡ detector_of self.old }
-        ensures buffer { buffer_of self.new ≡ buffer_after (buffer_of self.old) (state_of self.old).rows }
+        ensures lent { lent_of self.new ≡ lent_behind (D.carried (detector_of self.old)) (D.dead (detector_of self.old)) (lent_of self.old) (state_of self.old) (0x57, []) }
     {
-        match self.book.write(self.buffer.as_mut_slice()) {
-            Ok(length) => Outcome::Written(length),
-            Err(refusal) => Outcome::Refused(refusal.into()),
-        }
+        Outcome::Answered(match self.book.write(self.buffer.as_mut_slice()) {
+            Ok(length) => Answer::Written(length),
+            Err(refusal) => Answer::Refused(refusal.into()),
+        })
     }
 
     /// The first bytes of the buffer. Behind a command that was answered with `Written(length)` these are the book as it is written, until it is written again.
     pub fn written(&self, length: usize) -> &[u8]
-        ensures { result.now ≡ take length (buffer_of self.now) }
+        ensures { result.now ≡ take length (lent_of self.now).buffer }
     {
-        &self.buffer.as_slice()[..length.min(LENT)]
+        &self.buffer.as_slice()[..length.min(BYTES)]
+    }
+
+    /// The first moves of the plan buffer. Behind a command that was answered with a plan of this length these are its moves, until a plan is found again.
+    pub fn plan(&self, length: usize) -> &[u8]
+        ensures { result.now ≡ take length (lent_of self.now).plan }
+    {
+        &self.plan.as_slice()[..length.min(MOVES)]
     }
 }

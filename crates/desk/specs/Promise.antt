@@ -1,0 +1,42 @@
+-- What the lines of a sheet promise.
+use Rattle.std.specs.Prelude.{◌≡◌, ◌⊎◌, ℕ, Bool, List, [], ◌∷◌, ◌++◌, length}
+use Rattle.model.specs.declared.row.Row.{Row}
+use Rattle.model.specs.Records.{ModelRecord}
+use Rattle.sheet.specs.Commands.{commands_from}
+use Rattle.detectors.specs.Shipping.{told_dead}
+use Rattle.orders.specs.Orders.{Brought, AnswerTold}
+use Rattle.orders.specs.Runs.{answers_run, left_run}
+use Rattle.orders.specs.WholeRuns.{PromiseOverTheWholeRun}
+use Rattle.session.specs.Orders.{bytes_told, lent_to, orders_given}
+use Rattle.session.specs.Sessions.{fresh_state}
+use Rattle.desk.specs.Lines.{Said, end}
+use Rattle.desk.specs.Lines as lines
+use Rattle.desk.specs.Carrying.{answer_line, order_lines}
+use Rattle.desk.specs.Openings.{Opened, unsealed, unchosen, orders}
+
+-- the lines of answers, one after another, with the orders as they are afterwards
+abbrev pub answer_lines : List AnswerTold → List Brought → List Said
+answer_lines [] left = []
+answer_lines (a ∷ answers) [] = []
+answer_lines (a ∷ answers) (o ∷ left) = answer_line a (bytes_told a (lent_to o)) ∷ answer_lines answers left
+
+-- the line is `end`, or a stop
+abbrev pub Closes : Said → Type 0
+Closes line = (line ≡ end) ⊎ ((number : ℕ) × (place : ℕ) × (line ≡ lines.stop number place))
+
+-- The lines tell the run of these orders on a new book over a detector that carries the model d and calls the rows of `dead` dead: a line for each answer, in
+-- order, and a last one that closes. And that run keeps the promise over whole runs.
+pub record KeepsThePromise (d : ModelRecord) (dead : Row → Bool) (given : List Brought) (lines : List Said) : Type 0 where
+  pub last : Said
+  pub the_last_closes : Closes last
+  pub a_line_for_each_answer : lines ≡ answer_lines (answers_run d dead [] given) (left_run d dead [] given) ++ last ∷ []
+  pub the_run_keeps_it : PromiseOverTheWholeRun d dead given (left_run d dead [] given) (answers_run d dead [] given)
+
+-- the lines behind the model's line of a sheet that opens so, where its detector is made
+abbrev pub SheetKeepsThePromise : List ℕ → Opened → Type 0
+SheetKeepsThePromise sheet (unsealed stop) = Unit {0}
+SheetKeepsThePromise sheet (unchosen d stop) = Unit {0}
+SheetKeepsThePromise sheet (orders d detector place) =
+    let dead = told_dead d detector in
+    let items = commands_from sheet place in
+    KeepsThePromise d dead (orders_given d dead fresh_state items) (order_lines d dead (length sheet) fresh_state items)
