@@ -13,19 +13,24 @@ pub struct Batch {
 }
 
 impl Batch {
-    pub fn new(heap: Global) -> Batch {
+    pub(crate) fn new(heap: Global) -> Batch {
         Batch {
             heap,
             orders: Vec::new(heap),
         }
     }
 
-    pub fn judge(&mut self, row: Row) -> Result<(), AllocError> {
+    pub(crate) fn judge(&mut self, row: Row) -> Result<(), AllocError> {
         self.push(Order::Judge(row))
     }
 
     /// With a work list of so many places, and so many bytes for a plan.
-    pub fn probe(&mut self, state: Row, places: usize, bytes: usize) -> Result<(), AllocError> {
+    pub(crate) fn probe(
+        &mut self,
+        state: Row,
+        places: usize,
+        bytes: usize,
+    ) -> Result<(), AllocError> {
         let work_list = work_list(self.heap, places)?;
         let plan = buffer(self.heap, bytes)?;
         self.push(Order::Probe {
@@ -35,18 +40,18 @@ impl Batch {
         })
     }
 
-    pub fn offer(&mut self, list: &[Row]) -> Result<(), AllocError> {
+    pub(crate) fn offer(&mut self, list: &[Row]) -> Result<(), AllocError> {
         let list = list.to_vec(self.heap)?;
         self.push(Order::Offer(list))
     }
 
-    pub fn settle(&mut self, candidates: &[Row]) -> Result<(), AllocError> {
+    pub(crate) fn settle(&mut self, candidates: &[Row]) -> Result<(), AllocError> {
         let candidates = candidates.to_vec(self.heap)?;
         self.push(Order::Settle(candidates))
     }
 
     /// To a buffer of so many bytes.
-    pub fn write(&mut self, bytes: usize) -> Result<(), AllocError> {
+    pub(crate) fn write(&mut self, bytes: usize) -> Result<(), AllocError> {
         let buffer = buffer(self.heap, bytes)?;
         self.push(Order::Write(buffer))
     }

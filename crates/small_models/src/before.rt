@@ -19,12 +19,12 @@ fn walked_before(place: usize) -> Walked {
 }
 
 /// A buffer of so many bytes.
-pub fn buffer(heap: Global, bytes: usize) -> Result<Vec<u8>, AllocError> {
+pub(crate) fn buffer(heap: Global, bytes: usize) -> Result<Vec<u8>, AllocError> {
     (0..bytes).map(byte_before).collect(heap)
 }
 
 /// A work list of so many places.
-pub fn work_list(heap: Global, places: usize) -> Result<Vec<Walked>, AllocError> {
+pub(crate) fn work_list(heap: Global, places: usize) -> Result<Vec<Walked>, AllocError> {
     (0..places).map(walked_before).collect(heap)
 }
 
@@ -35,7 +35,7 @@ fn is_unused(place: usize, walked: &Walked) -> bool {
 }
 
 /// The places at the front that hold something else.
-pub fn listed(work_list: &[Walked]) -> usize {
+pub(crate) fn listed(work_list: &[Walked]) -> usize {
     work_list
         .iter()
         .enumerate()
@@ -44,7 +44,7 @@ pub fn listed(work_list: &[Walked]) -> usize {
 }
 
 /// The places at the end that hold what stood there before.
-pub fn kept_places(work_list: &[Walked]) -> usize {
+pub(crate) fn kept_places(work_list: &[Walked]) -> usize {
     work_list
         .iter()
         .enumerate()
@@ -54,7 +54,7 @@ pub fn kept_places(work_list: &[Walked]) -> usize {
 }
 
 /// The bytes at the end that are as before.
-pub fn kept_bytes(buffer: &[u8]) -> usize {
+pub(crate) fn kept_bytes(buffer: &[u8]) -> usize {
     buffer
         .iter()
         .enumerate()

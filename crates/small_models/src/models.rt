@@ -58,12 +58,12 @@ fn lane_model(heap: Global) -> anyhow::Result<Model> {
 }
 
 /// The lane model over the bare detector.
-pub fn lane(heap: Global) -> anyhow::Result<Bare> {
+pub(crate) fn lane(heap: Global) -> anyhow::Result<Bare> {
     Ok(Bare::new(lane_model(heap)?))
 }
 
 /// The lane model over the detector of a kind, 0 to 2.
-pub fn lane_over(heap: Global, kind: u8, operands: [u8; 3]) -> anyhow::Result<Shipped> {
+pub(crate) fn lane_over(heap: Global, kind: u8, operands: [u8; 3]) -> anyhow::Result<Shipped> {
     match make(heap, lane_model(heap)?, kind, operands)? {
         Ok(detector) => Ok(detector),
         Err(unmade) => Err(anyhow!("a detector is refused by {}", unmade.refusal.number())),
@@ -71,13 +71,13 @@ pub fn lane_over(heap: Global, kind: u8, operands: [u8; 3]) -> anyhow::Result<Sh
 }
 
 /// As the lane model, but only the last step of the dock undoes the other.
-pub fn free(heap: Global) -> anyhow::Result<Bare> {
+pub(crate) fn free(heap: Global) -> anyhow::Result<Bare> {
     let model = to_2_2(heap, &[LANE_UP_1, FREED_LANE_UP_2, DOCK_UP_1, DOCK_UP_2])?;
     Ok(Bare::new(model))
 }
 
 /// The gate opens only with the key, and no move brings the key.
-pub fn key(heap: Global) -> anyhow::Result<Bare> {
+pub(crate) fn key(heap: Global) -> anyhow::Result<Bare> {
     let open_it = Step {
         name: *b"open-it ",
         conditions: &[(1, 1)],
@@ -93,7 +93,7 @@ pub fn key(heap: Global) -> anyhow::Result<Bare> {
 }
 
 /// A model without variables and moves. Its one state contains the goal.
-pub fn nothing(heap: Global) -> anyhow::Result<Bare> {
+pub(crate) fn nothing(heap: Global) -> anyhow::Result<Bare> {
     let sketch = Sketch {
         variables: &[],
         steps: &[],
@@ -144,11 +144,11 @@ fn switches(heap: Global, on: &[Entry]) -> anyhow::Result<Bare> {
 }
 
 /// From its start 256 states are reached.
-pub fn eight_switches(heap: Global) -> anyhow::Result<Bare> {
+pub(crate) fn eight_switches(heap: Global) -> anyhow::Result<Bare> {
     switches(heap, &ON[..8])
 }
 
 /// From its start 512 states are reached.
-pub fn nine_switches(heap: Global) -> anyhow::Result<Bare> {
+pub(crate) fn nine_switches(heap: Global) -> anyhow::Result<Bare> {
     switches(heap, &ON)
 }

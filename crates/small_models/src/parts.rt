@@ -8,7 +8,7 @@ mod long_lists;
 mod places;
 
 /// Shows all parts.
-pub fn show_all(rt: &(impl Print + AllocGlobal)) -> anyhow::Result<()> {
+pub(crate) fn show_all(rt: &(impl Print + AllocGlobal)) -> anyhow::Result<()> {
     show_legend(rt)?;
     long_lists::show_all(rt)?;
     entries::show_all(rt)?;

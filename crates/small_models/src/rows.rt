@@ -3,7 +3,7 @@
 use model::row::Row;
 
 /// The row that gives each variable the value beside it.
-pub fn row_of(entries: &[(usize, u8)]) -> Row {
+pub(crate) fn row_of(entries: &[(usize, u8)]) -> Row {
     let mut row = Row::open();
     for (variable, value) in entries {
         row.set(*variable, *value);
@@ -12,27 +12,27 @@ pub fn row_of(entries: &[(usize, u8)]) -> Row {
 }
 
 /// The row that gives the lane alone.
-pub fn at_lane(value: u8) -> Row {
+pub(crate) fn at_lane(value: u8) -> Row {
     row_of(&[(0, value)])
 }
 
 /// The row that gives the dock alone.
-pub fn at_dock(value: u8) -> Row {
+pub(crate) fn at_dock(value: u8) -> Row {
     row_of(&[(1, value)])
 }
 
 /// The lane, and then the dock.
-pub fn position(lane: u8, dock: u8) -> Row {
+pub(crate) fn position(lane: u8, dock: u8) -> Row {
     row_of(&[(0, lane), (1, dock)])
 }
 
 /// The gate, and then the key.
-pub fn gate_and_key(gate: u8, key: u8) -> Row {
+pub(crate) fn gate_and_key(gate: u8, key: u8) -> Row {
     row_of(&[(0, gate), (1, key)])
 }
 
 /// The lamp is dark, and the switches from the first on stand as the bits of a number, from the lowest on.
-pub fn dark(switches: usize, bits: u32) -> Row {
+pub(crate) fn dark(switches: usize, bits: u32) -> Row {
     let mut row = row_of(&[(0, 0)]);
     let mut left = bits;
     for switch in 0..switches {

@@ -10,13 +10,13 @@ use orders::order::Order;
 use orders::running::run;
 
 /// Prints the headline of a part.
-pub fn headline(rt: &impl Print, line: &str) -> anyhow::Result<()> {
+pub(crate) fn headline(rt: &impl Print, line: &str) -> anyhow::Result<()> {
     println!(rt; "\n{line}")?;
     Ok(())
 }
 
 /// Runs the orders on a new book over the detector, and prints a line for each. The first has the name in front.
-pub fn show<D: Detector + Drop>(
+pub(crate) fn show<D: Detector + Drop>(
     rt: &(impl Print + AllocGlobal),
     name: &str,
     detector: D,

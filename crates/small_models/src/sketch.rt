@@ -31,7 +31,7 @@ pub struct Sketch<'a> {
 
 impl<'a> Sketch<'a> {
     /// The model that is sketched.
-    pub fn sealed(&self, heap: Global) -> anyhow::Result<Model> {
+    pub(crate) fn sealed(&self, heap: Global) -> anyhow::Result<Model> {
         let mut naming = NamingVariables::new(heap)?;
         for (name, size) in self.variables {
             done(naming.name_variable(*size, *name))?;

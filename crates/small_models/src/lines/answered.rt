@@ -7,7 +7,7 @@ use orders::answer::Answer;
 use orders::order::Order;
 
 /// The line by which an answer to the order would be told of a sheet.
-pub fn line_of<'a>(answer: Answer, order: &'a Order) -> Line<'a> {
+pub(crate) fn line_of<'a>(answer: Answer, order: &'a Order) -> Line<'a> {
     match answer {
         Answer::Judged(verdict) => Line::Judge(verdict),
         Answer::Probed(

@@ -8,7 +8,7 @@ use crate::showing::{headline, show};
 use book::book::Book;
 use model::row::Row;
 
-pub fn show_all(rt: &(impl Print + AllocGlobal)) -> anyhow::Result<()> {
+pub(crate) fn show_all(rt: &(impl Print + AllocGlobal)) -> anyhow::Result<()> {
     headline(rt, "Dead stays dead")?;
     show_learned(rt)?;
     show_key(rt)?;

@@ -7,7 +7,7 @@ use crate::rows::{at_dock, at_lane, dark, gate_and_key, position, row_of};
 use crate::showing::{headline, show};
 use model::row::Row;
 
-pub fn show_all(rt: &(impl Print + AllocGlobal)) -> anyhow::Result<()> {
+pub(crate) fn show_all(rt: &(impl Print + AllocGlobal)) -> anyhow::Result<()> {
     headline(
         rt,
         "12, 13: a row that does not disagree with the goal, a row from which a move leads out of the set",

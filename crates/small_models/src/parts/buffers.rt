@@ -6,7 +6,7 @@ use crate::models::{free, lane};
 use crate::rows::{at_lane, position};
 use crate::showing::{headline, show};
 
-pub fn show_all(rt: &(impl Print + AllocGlobal)) -> anyhow::Result<()> {
+pub(crate) fn show_all(rt: &(impl Print + AllocGlobal)) -> anyhow::Result<()> {
     headline(rt, "17: a plan is longer than its buffer")?;
     show_plans(rt)?;
     headline(

@@ -7,7 +7,7 @@ use crate::rows::{at_dock, at_lane, position, row_of};
 use crate::showing::{headline, show};
 use model::row::Row;
 
-pub fn show_all(rt: &(impl Print + AllocGlobal)) -> anyhow::Result<()> {
+pub(crate) fn show_all(rt: &(impl Print + AllocGlobal)) -> anyhow::Result<()> {
     headline(
         rt,
         "6, 7: no such variable, a value too large; the first wrong entry decides",

@@ -6,7 +6,7 @@ use crate::models::lane;
 use crate::rows::{at_lane, row_of};
 use crate::showing::{headline, show};
 
-pub fn show_all(rt: &(impl Print + AllocGlobal)) -> anyhow::Result<()> {
+pub(crate) fn show_all(rt: &(impl Print + AllocGlobal)) -> anyhow::Result<()> {
     headline(
         rt,
         "4: a list of 257 rows, whatever they are; 256 rows are asked further",

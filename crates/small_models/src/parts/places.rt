@@ -7,7 +7,7 @@ use crate::rows::{dark, position};
 use crate::showing::{headline, show};
 use model::row::Row;
 
-pub fn show_all(rt: &(impl Print + AllocGlobal)) -> anyhow::Result<()> {
+pub(crate) fn show_all(rt: &(impl Print + AllocGlobal)) -> anyhow::Result<()> {
     headline(
         rt,
         "16: a state must be listed, and the work list has no place left",
