@@ -1,0 +1,8 @@
+pub mod Covers
+pub mod AllMoves
+pub mod Tables
+pub mod Going
+pub mod Marks
+pub mod Fronts
+pub mod Picked
+pub mod Largest
