@@ -3,8 +3,6 @@ pub mod FreshRows
 pub mod InTheBook
 pub mod NoPlan
 pub mod OfferLaws
-pub mod Rounds
-pub mod Picked
 pub mod SettleLaws
 pub mod Orders
 pub mod SameDeadRows

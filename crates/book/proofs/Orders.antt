@@ -1,8 +1,9 @@
 -- What an offer and a settle leave of a book: rows of the model, none of them twice, that keep both rules.
-use Rattle.std.proofs.Common.{◌≡◌, ℕ, ◌+◌, Bool, true, cond, List, [], ◌∷◌, ◌++◌, length, is_ok, Some, None, Ok, Err, Result, refl, sym, ap, ◌∙◌, inl, inr}
+use Rattle.std.proofs.Common.{◌≡◌, ℕ, ◌+◌, Bool, true, cond, List, [], ◌∷◌, ◌++◌, length, take, is_ok, Some, None, Ok, Err, Result, refl, sym, ap, ◌∙◌, inl, inr}
 use Rattle.std.specs.List.{list_all}
 use Rattle.std.specs.Result.{result_and}
 use Rattle.std.proofs.lemmas.Bool.{cond_both, true≢false}
+use Rattle.std.proofs.lemmas.List.{take_all}
 use Rattle.model.specs.declared.row.Row.{Row}
 use Rattle.model.specs.Members.{Among}
 use Rattle.model.specs.Records.{ModelRecord, Sealed, row_of_model}
@@ -13,15 +14,16 @@ use Rattle.book.specs.declared.refused.Refused.{Refused}
 use Rattle.book.specs.declared.settled.Settled.{Settled}
 use Rattle.book.specs.Adding.{fresh, room_checked}
 use Rattle.book.specs.Laws.{StaysLawful}
-use Rattle.book.specs.Offers.{list_checked, rows_checked, offer_checked, offer_answer, offer_rows}
+use Rattle.book.specs.Offers.{length_checked, entries_checked, list_checked, rows_checked, offer_checked, offer_answer, offer_rows}
 use Rattle.refusal.specs.declared.Refusal.TheVariants.{LeadsOut}
 use Rattle.book.specs.Refusals.{Checked, refused_step}
 use Rattle.rules.specs.Rules.{keeps_rule_1, keeps_rules, stays_in}
 use Rattle.rules.specs.Searches.{first_failing, first_failing_pair}
-use Rattle.book.specs.Settles.{unmarked_at_start, after_rounds, round_count, most_rounds, left_unmarked, rounds, settle_checked, settle_answer, settle_rows}
+use Rattle.settling.specs.Rounds.{left_of, rounds_for}
+use Rattle.book.specs.Settles.{left_unmarked, rounds, settle_checked, settle_answer, settle_rows}
 use Rattle.book.specs.Verdicts.{book_dead}
 use Rattle.book.proofs.NoPlan.{stays_lawful}
-use Rattle.book.proofs.OfferLaws.{list_fit, offer_fit, settle_fit, fresh_fit, added_fit, added_once, offered_rules}
+use Rattle.book.proofs.OfferLaws.{ok_parts, short_list, list_fit, offer_fit, settle_fit, fresh_fit, added_fit, added_once, offered_rules}
 use Rattle.book.proofs.InTheBook.{rule_2_in_the_book}
 use Rattle.book.proofs.SettleLaws.{unmarked_fit, unmarked_rules}
 
@@ -147,22 +149,25 @@ module _ (d : ModelRecord) (dead : Row → Bool) (rows list : List Row) where
         with_rounds (Ok u) e = let same_number : added ≡ length (fresh rows left) = cc in rw same_number refl
         with_rounds (Err w) e = absurd (ok_is_no_err added w e)
 
-    pub settle_full : (n : ℕ) → n ≡ rounds d dead rows list → (why : Refused) → Err why ≡ result_and (room_checked rows left) (Ok (length (fresh rows left))) → ◌≡◌ {A = Result Settled Refused} (Err why) (settle_answer d dead rows list)
-    settle_full n same why e = as_refused (room_checked rows left) e ∙ told n same
+    pub settle_full : (why : Refused) → Err why ≡ result_and (room_checked rows left) (Ok (length (fresh rows left))) → ◌≡◌ {A = Result Settled Refused} (Err why) (settle_answer d dead rows list)
+    settle_full why e = as_refused (room_checked rows left) e ∙ told (rounds d dead rows list) refl
       where
-        as_refused : (r : Checked) → Err why ≡ result_and r (Ok (length (fresh rows left))) → ◌≡◌ {A = Result Settled Refused} (Err why) (result_and r (Ok (record { added = length (fresh rows left); rounds = n })))
+        as_refused : (r : Checked) → Err why ≡ result_and r (Ok (length (fresh rows left))) → ◌≡◌ {A = Result Settled Refused} (Err why) (result_and r (Ok (record { added = length (fresh rows left); rounds = rounds d dead rows list })))
         as_refused (Ok u) e = absurd (ok_is_no_err (length (fresh rows left)) why (sym e))
         as_refused (Err w) e = let same_reason : why ≡ w = cc in rw same_reason refl
 
     pub settle_adds : cond (is_ok (room_checked rows left)) (rows ++ fresh rows left) rows ≡ settle_rows d dead rows list
     settle_adds = rw (room_asked, sym is) refl
 
--- what is sifted by the book is what is settled
-module _ (d : ModelRecord) (dead : Row → Bool) (rows list : List Row) where
-  pub left_are_unmarked : (left : List Row) → left ≡ after_rounds d (book_dead d dead rows) (most_rounds list) (unmarked_at_start d list) → left ≡ left_unmarked d dead rows list
-  unfolding left_unmarked
-  left_are_unmarked left is = is
+-- what is left of candidates that are not too many is what is settled
+module _ (d : ModelRecord) (dead : Row → Bool) (rows list : List Row) (listed : list_checked d.variables list ≡ Ok tt) where
+  all_taken : take 256 list ≡ list
+  all_taken = take_all 256 list (short_list list (ok_parts (length_checked list) (entries_checked d.variables 0 list) (ap is_ok listed)).0)
 
-  pub rounds_are_counted : (n : ℕ) → n ≡ round_count d (book_dead d dead rows) (most_rounds list) (unmarked_at_start d list) → n ≡ rounds d dead rows list
+  pub left_are_unmarked : (left : List Row) → left ≡ left_of d (book_dead d dead rows) (take 256 list) → left ≡ left_unmarked d dead rows list
+  unfolding left_unmarked
+  left_are_unmarked left is = is ∙ ap (left_of d (book_dead d dead rows)) all_taken
+
+  pub rounds_are_counted : (n : ℕ) → n ≡ rounds_for d (book_dead d dead rows) (take 256 list) → n ≡ rounds d dead rows list
   unfolding rounds
-  rounds_are_counted n is = is
+  rounds_are_counted n is = is ∙ ap (rounds_for d (book_dead d dead rows)) all_taken

@@ -1,5 +1,5 @@
 -- What the verdicts of a book are worth, and what its orders do, apart from how they do it.
-use Rattle.std.specs.Prelude.{◌≡◌, ◌<◌, ◌≤◌, ℕ, ◌+◌, Bool, true, false, cond, List, [], ◌∷◌, ◌++◌, length, take, Ok, Result, is_ok, slice_index_or}
+use Rattle.std.specs.Prelude.{◌≡◌, ◌≤◌, ℕ, ◌+◌, Bool, true, List, ◌++◌, length, take, Ok, Result, is_ok}
 use Rattle.model.specs.declared.row.Row.{Row}
 use Rattle.model.specs.Rows.{contained}
 use Rattle.model.specs.Members.{Among}
@@ -11,6 +11,7 @@ use Rattle.refusal.specs.declared.Refusal.{Refusal}
 use Rattle.book.specs.Probes as probes
 use Rattle.book.specs.Offers.{offer_checked, offer_answer, offer_rows}
 use Rattle.rules.specs.Rules.{KeepsBothRules}
+use Rattle.settling.specs.Selections.{picked, WithinPlaces}
 use Rattle.book.specs.Settles.{left_unmarked, settle_rows}
 use Rattle.book.specs.Verdicts.{book_dead}
 
@@ -40,16 +41,6 @@ abbrev pub PassesExactly : Bool → ModelRecord → (Row → Bool) → List Row 
 PassesExactly passes d dead rows list =
     (passes ≡ true → TogetherTheyKeepTheRulesAndFit d dead rows list)
     × (TogetherTheyKeepTheRulesAndFit d dead rows list → passes ≡ true)
-
--- the items at the places that a choice takes, in their order; a choice says of each place whether it takes it
-abbrev pub picked : {X : Type 0} → List Bool → List X → List X
-picked [] xs = []
-picked (takes ∷ choice) [] = []
-picked (takes ∷ choice) (x ∷ xs) = cond takes (x ∷ picked choice xs) (picked choice xs)
-
--- each place of the list that the one choice takes is taken by the other
-abbrev pub WithinPlaces : {X : Type 0} → List X → List Bool → List Bool → Type 0
-WithinPlaces list chosen places = (i : ℕ) → i < length list → slice_index_or chosen i false ≡ true → slice_index_or places i false ≡ true
 
 -- A settle of the list that is not refused, where the book has these rows: the candidates that stay unmarked, taken by their places, would have
 -- passed as an offer, which adds what the settle adds; and a choice of candidates that would have passed takes none of the other places.

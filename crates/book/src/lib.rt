@@ -7,7 +7,5 @@ mod checking;
 pub mod probed;
 pub mod refused;
 pub mod settled;
-mod settling;
-mod sifted;
 mod taking;
 mod writing;

@@ -21,8 +21,6 @@ use crate::checking::check_list;
 use crate::probed::Probed;
 use crate::refused::Refused;
 use crate::settled::Settled;
-use crate::settling::sift;
-use crate::sifted::Sifted;
 use crate::taking::take_state;
 use crate::writing::write_rows;
 use detector::Detector;
@@ -32,6 +30,7 @@ use model::row::Row;
 use model::sealed::Model;
 use refusal::Refusal;
 use rules::set::{covers, first_leading_out, first_meeting_goal};
+use settling::rounds::settle;
 use std::alloc::{AllocError, Global};
 use walk::ended::Ended;
 use walk::walked::Walked;
@@ -132,13 +131,12 @@ impl<D: Detector> Book<D> {
         if let Err(refused) = check_list(self.model(), candidates) {
             return Err(refused);
         }
-        let Sifted {
-            rows,
-            count,
-            rounds,
-        } = sift(self, candidates);
-        match add_fresh(&mut self.rows, &rows[..count]) {
-            Ok(added) => Ok(Settled { added, rounds }),
+        let sifted = settle(self, candidates);
+        match add_fresh(&mut self.rows, sifted.rows()) {
+            Ok(added) => Ok(Settled {
+                added,
+                rounds: sifted.rounds(),
+            }),
             Err(refused) => Err(refused),
         }
     }

@@ -1,4 +1,4 @@
-use Rattle.std.proofs.Common.{◌≡◌, ◌∙◌, sym, ap, subst, true, List, Ok, take}
+use Rattle.std.proofs.Common.{◌≡◌, ◌∙◌, sym, ap, subst, true, List, Ok}
 use Rattle.std.specs.List.{list_all}
 use Rattle.model.specs.declared.row.Row.{Row}
 use Rattle.model.specs.Records.{ModelRecord, row_of_model}
@@ -31,10 +31,9 @@ invariant_of-self g c =
     let dead = g.D.Detector.dead book.detector in
     let rows = book.rows.items in
     let list = c.args.candidates.now in
-    let sifted = c.sift-count.result in
-    let left = take sifted.count sifted.rows in
+    let left = c.rows.result.now in
     let listed : list_checked d.variables list ≡ Ok tt = ap (λ (e : ModelRecord). list_checked e.variables list) (sym c.model.ensures) ∙ sym c.check_list.ensures ∙ c.in_default.is in
-    let settles : left ≡ left_unmarked d dead rows list = left_are_unmarked d dead rows list left c.sift-count.ensures.left in
+    let settles : left ≡ left_unmarked d dead rows list = left_are_unmarked d dead rows list listed left (c.rows.ensures ∙ c.settle-sifted.ensures.left) in
     let sealed = g.met.D.Detector.sealed book.detector in
     let after = c.add_fresh.ensures.after ∙ settle_adds d dead rows list listed left settles in
     record {
@@ -52,11 +51,10 @@ returns-in-Ok-clause-answer g c =
     let dead = g.D.Detector.dead book.detector in
     let rows = book.rows.items in
     let list = c.args.candidates.now in
-    let sifted = c.sift-count.result in
-    let left = take sifted.count sifted.rows in
+    let left = c.rows.result.now in
     let listed : list_checked d.variables list ≡ Ok tt = ap (λ (e : ModelRecord). list_checked e.variables list) (sym c.model.ensures) ∙ sym c.check_list.ensures ∙ c.in_default.is in
-    let settles : left ≡ left_unmarked d dead rows list = left_are_unmarked d dead rows list left c.sift-count.ensures.left in
-    settle_answers d dead rows list listed left settles sifted.rounds (rounds_are_counted d dead rows list sifted.rounds c.sift-count.ensures.rounds) c.in-Ok.added (sym c.in-Ok.is ∙ c.add_fresh.ensures.answer)
+    let settles : left ≡ left_unmarked d dead rows list = left_are_unmarked d dead rows list listed left (c.rows.ensures ∙ c.settle-sifted.ensures.left) in
+    settle_answers d dead rows list listed left settles c.rounds.result (rounds_are_counted d dead rows list listed c.rounds.result (c.rounds.ensures ∙ c.settle-sifted.ensures.rounds)) c.in-Ok.added (sym c.in-Ok.is ∙ c.add_fresh.ensures.answer)
 
 pub returns-in-Ok-clause-rows : goal.returns-in-Ok-clause-rows
 returns-in-Ok-clause-rows g c =
@@ -65,10 +63,9 @@ returns-in-Ok-clause-rows g c =
     let dead = g.D.Detector.dead book.detector in
     let rows = book.rows.items in
     let list = c.args.candidates.now in
-    let sifted = c.sift-count.result in
-    let left = take sifted.count sifted.rows in
+    let left = c.rows.result.now in
     let listed : list_checked d.variables list ≡ Ok tt = ap (λ (e : ModelRecord). list_checked e.variables list) (sym c.model.ensures) ∙ sym c.check_list.ensures ∙ c.in_default.is in
-    let settles : left ≡ left_unmarked d dead rows list = left_are_unmarked d dead rows list left c.sift-count.ensures.left in
+    let settles : left ≡ left_unmarked d dead rows list = left_are_unmarked d dead rows list listed left (c.rows.ensures ∙ c.settle-sifted.ensures.left) in
     c.add_fresh.ensures.after ∙ settle_adds d dead rows list listed left settles
 
 pub returns-in-Err-add_fresh-clause-answer : goal.returns-in-Err-add_fresh-clause-answer
@@ -78,11 +75,10 @@ returns-in-Err-add_fresh-clause-answer g c =
     let dead = g.D.Detector.dead book.detector in
     let rows = book.rows.items in
     let list = c.args.candidates.now in
-    let sifted = c.sift-count.result in
-    let left = take sifted.count sifted.rows in
+    let left = c.rows.result.now in
     let listed : list_checked d.variables list ≡ Ok tt = ap (λ (e : ModelRecord). list_checked e.variables list) (sym c.model.ensures) ∙ sym c.check_list.ensures ∙ c.in_default.is in
-    let settles : left ≡ left_unmarked d dead rows list = left_are_unmarked d dead rows list left c.sift-count.ensures.left in
-    settle_full d dead rows list listed left settles sifted.rounds (rounds_are_counted d dead rows list sifted.rounds c.sift-count.ensures.rounds) c.in-Err-add_fresh.refused (sym c.in-Err-add_fresh.is ∙ c.add_fresh.ensures.answer)
+    let settles : left ≡ left_unmarked d dead rows list = left_are_unmarked d dead rows list listed left (c.rows.ensures ∙ c.settle-sifted.ensures.left) in
+    settle_full d dead rows list listed left settles c.in-Err-add_fresh.refused (sym c.in-Err-add_fresh.is ∙ c.add_fresh.ensures.answer)
 
 pub returns-in-Err-add_fresh-clause-rows : goal.returns-in-Err-add_fresh-clause-rows
 returns-in-Err-add_fresh-clause-rows g c =
@@ -91,8 +87,7 @@ returns-in-Err-add_fresh-clause-rows g c =
     let dead = g.D.Detector.dead book.detector in
     let rows = book.rows.items in
     let list = c.args.candidates.now in
-    let sifted = c.sift-count.result in
-    let left = take sifted.count sifted.rows in
+    let left = c.rows.result.now in
     let listed : list_checked d.variables list ≡ Ok tt = ap (λ (e : ModelRecord). list_checked e.variables list) (sym c.model.ensures) ∙ sym c.check_list.ensures ∙ c.in_default.is in
-    let settles : left ≡ left_unmarked d dead rows list = left_are_unmarked d dead rows list left c.sift-count.ensures.left in
+    let settles : left ≡ left_unmarked d dead rows list = left_are_unmarked d dead rows list listed left (c.rows.ensures ∙ c.settle-sifted.ensures.left) in
     c.add_fresh.ensures.after ∙ settle_adds d dead rows list listed left settles
