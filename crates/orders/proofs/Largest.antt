@@ -6,7 +6,7 @@ use Rattle.model.specs.Records.{ModelRecord, Sealed}
 use Rattle.rules.specs.Rules.{keeps_rules}
 use Rattle.book.specs.declared.settled.Settled.{Settled}
 use Rattle.book.specs.Adding.{fresh}
-use Rattle.book.specs.Laws.{picked}
+use Rattle.settling.specs.Selections.{picked}
 use Rattle.book.specs.Offers.{offer_checked}
 use Rattle.book.specs.Refusals.{Checked}
 use Rattle.book.specs.Settles.{left_unmarked, settle_checked, rounds}

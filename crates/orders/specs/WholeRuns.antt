@@ -11,7 +11,7 @@ use Rattle.walk.specs.declared.walked.Walked.{Walked}
 use Rattle.sheet.specs.Commands.{commands}
 use Rattle.hand.specs.Gathering.{nothing}
 use Rattle.hand.specs.ReadBack as read
-use Rattle.book.specs.Laws.{picked, WithinPlaces}
+use Rattle.settling.specs.Selections.{picked, WithinPlaces}
 use Rattle.orders.specs.Orders.{Brought, judge, probe, offer, settle, write, AnswerTold, judged, called_dead, has_plan, offered, settled, wrote, refused}
 use Rattle.orders.specs.Runs.{answer, rows_after, rows_run, answers_run, left_run}
 

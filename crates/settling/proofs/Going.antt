@@ -41,4 +41,3 @@ module _ (d : ModelRecord) (calls : Row → Bool) (most : ℕ) (first : List Row
         last : (n : ℕ) → length unmarked < n → after_rounds d calls n unmarked ≡ after_rounds d calls most first → round_count d calls n unmarked + round ≡ round_count d calls most first + 1 → (after_round d calls unmarked ≡ after_rounds d calls most first) × (round ≡ round_count d calls most first)
         last zero short left count = let none : ⊥ = omega arith in absurd none
         last (suc n) short left count = (filter_all (keeps_rule_2 d calls unmarked) unmarked off ∙ rw off at left, (let once = rw off at count in omega arith))
-

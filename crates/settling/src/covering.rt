@@ -1,5 +1,5 @@
 //! Candidates that cover a row are looked for.
-ghost use Rattle.std.specs.Prelude.{◌≡◌, ◌<◌, ◌≤◌, false, IfSome, is_some, length, not, take, MatchOption};
+ghost use Rattle.std.specs.Prelude.{◌≡◌, ◌≤◌, false, IfSome, is_some, length, take};
 ghost use Rattle.model.specs.Moves.{progression};
 ghost use Rattle.rules.specs.Rules.{stays_in};
 ghost use Rattle.settling.specs.Candidates.{covered, unmarked};

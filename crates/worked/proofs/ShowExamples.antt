@@ -13,7 +13,8 @@ use Rattle.learning.specs.Parts.{first_part, regained}
 use Rattle.learning.specs.Learns.{regain_lowest, regain_once, regain, regain_count, learned, entries_regained}
 use Rattle.book.specs.Adding.{fresh}
 use Rattle.book.specs.Offers.{entries_checked, offer_checked}
-use Rattle.book.specs.Settles.{after_round, marks_nothing, after_rounds, round_count, left_unmarked, rounds, settle_checked}
+use Rattle.settling.specs.Rounds.{after_round, marks_nothing, after_rounds, round_count}
+use Rattle.book.specs.Settles.{left_unmarked, rounds, settle_checked}
 use Rattle.book.specs.Probes.{walk_of}
 use Rattle.book.specs.Written.{entries_written}
 use Rattle.orders.specs.Orders.{judge, probe, write}
