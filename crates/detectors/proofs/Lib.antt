@@ -1,5 +1,6 @@
 pub mod FactsOfRows
 pub mod Rounds
+pub mod KnownMoves
 pub mod Limited
 pub mod ReachedDecided
 pub mod RelaxedLaws

@@ -20,4 +20,5 @@ pub mod CutMarking
 pub mod FactMarking
 pub mod ShippedRows
 pub mod ReachedList
+pub mod KnownMoves
 pub mod WalkedList

@@ -1,10 +1,11 @@
 //! The facts that are reached from a row.
-ghost use Rattle.std.specs.Prelude.{◌≡◌};
+ghost use Rattle.std.specs.Prelude.{◌≡◌, ◌≤◌, length};
 ghost use Rattle.first_come.specs.Arrivals.{arrived, keep_all};
 ghost use Rattle.model.specs.Drafts.{recorded};
 ghost use Rattle.detectors.specs.Facts.{same_fact, values_of, given_fact, entry_facts, row_facts, given_facts, entry_reached, all_reached};
 ghost use Rattle.detectors.specs.Closure.{try_move, round, closure, goal_missed};
 ghost use Rattle.detectors.specs.ReachedList.{facts};
+ghost use Rattle.detectors.specs.KnownMoves.{Known, EachKnown, ReachedUpTo};
 
 use super::fact::Fact;
 use first_come::marked::MarkedList;
@@ -68,11 +69,14 @@ impl Reached<'_> {
     /// Tries the moves, round after round, until a round adds no fact.
     #[tactic(auto, using(crate::proofs::Rounds::closure_end))]
     fn saturate(&mut self, moves: &[Move])
+        requires { length moves.now ≤ 128 }
         ensures { facts self.new ≡ closure (facts self.old) moves.now }
     {
+        // Of each move, how many of its first conditions are known to be reached: these stay so, and are not looked at again.
+        let mut known = [0; 128];
         loop {
             let before = self.facts.len();
-            self.try_all(moves);
+            self.try_all(moves, &mut known);
             if self.facts.len() == before {
                 return;
             }
@@ -80,21 +84,46 @@ impl Reached<'_> {
     }
 
     /// Tries each move once, in order.
-    fn try_all(&mut self, moves: &[Move])
-        ensures { facts self.new ≡ round (facts self.old) moves.now }
+    fn try_all(&mut self, moves: &[Move], known: &mut [u8])
+        requires long { length moves.now ≤ length known.old }
+        requires known { EachKnown (facts self.old) moves.now known.old }
+        ensures facts { facts self.new ≡ round (facts self.old) moves.now }
+        ensures long { length known.new ≡ length known.old }
+        ensures known { EachKnown (facts self.new) moves.now known.new }
     {
-        for m in moves {
-            self.try_move(m);
+        for index in 0..moves.len() {
+            known[index] = self.try_move(&moves[index], known[index]);
         }
     }
 
-    /// Lists a move's effect facts if its condition facts are all reached.
-    fn try_move(&mut self, m: &Move)
-        ensures { facts self.new ≡ try_move (facts self.old) m.now }
+    /// Lists a move's effect facts if its condition facts are all reached, unless that is done, and tells how many of the first
+    /// conditions are known to be reached now.
+    #[tactic(auto, using(crate::proofs::KnownMoves::tried_before, crate::proofs::KnownMoves::missed, crate::proofs::KnownMoves::enabled, crate::proofs::KnownMoves::known_missed, crate::proofs::KnownMoves::known_enabled))]
+    fn try_move(&mut self, m: &Move, known: u8) -> u8
+        requires { Known (facts self.old) m.now known }
+        ensures facts { facts self.new ≡ try_move (facts self.old) m.now }
+        ensures known { Known (facts self.new) m.now result }
     {
-        if self.all_reached(&m.conditions) {
+        if known >= 32 {
+            return known;
+        }
+        let reached = self.count_reached(&m.conditions, known);
+        if reached == 32 {
             self.list_given(&m.effects);
         }
+        reached
+    }
+
+    /// How many of the row's first entries are reached, where so many are known to be.
+    fn count_reached(&self, row: &Row, known: u8) -> u8
+        ensures { ReachedUpTo (facts self.now) row.now known result }
+    {
+        for variable in known..32 {
+            if !self.entry_reached(variable, row.entry(usize::from(variable))) {
+                return variable;
+            }
+        }
+        32
     }
 
     /// Lists the facts of a row's given entries.
