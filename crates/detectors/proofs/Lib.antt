@@ -10,6 +10,7 @@ pub mod CutCodes
 pub mod WalkSteps
 pub mod WalkLaws
 pub mod CutReach
+pub mod CutTables
 pub mod PatternLaws
 pub mod WorkedVerdicts
 pub mod ShippedLaws

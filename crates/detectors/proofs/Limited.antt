@@ -15,7 +15,7 @@ pub sized_below : (vs : List Variable) (v x : ℕ) → x < size_at vs v → v < 
 sized_below vs v x h =
     ⊎_elim (λ (l : v < length vs). l) (λ (past : length vs ≤ v). absurd (omega (arith, ap (λ (w : Variable). w.size) (get_or_past vs v no_variable past)))) (cases_lt v (length vs))
 
-size_at_most : (vs : List Variable) (v : ℕ) → sizes_fit vs ≡ true → size_at vs v ≤ 16
+pub size_at_most : (vs : List Variable) (v : ℕ) → sizes_fit vs ≡ true → size_at vs v ≤ 16
 size_at_most [] v h = omega arith
 size_at_most (w ∷ ws) zero h = leb-true w.size 16 (and_parts (ltb 0 w.size) (leb w.size 16) (and_parts (size_fits w.size) _ h).0).1
 size_at_most (w ∷ ws) (suc v) h = size_at_most ws v (and_parts (size_fits w.size) _ h).1

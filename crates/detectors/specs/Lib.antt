@@ -6,6 +6,7 @@ pub mod Operands
 pub mod Cuts
 pub mod CutMarks
 pub mod CutWalk
+pub mod CutTables
 pub mod ReachedCuts
 pub mod PatternMeaning
 pub mod Patterns

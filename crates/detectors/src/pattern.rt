@@ -1,27 +1,25 @@
 //! The pattern: a detector that looks at one to three variables of its model.
-ghost use Rattle.std.specs.Prelude.{◌≡◌, ◌≤◌, map};
+ghost use Rattle.std.specs.Prelude.{◌≡◌, ◌≤◌};
 ghost use Rattle.model.specs.Drafts.{recorded};
-ghost use Rattle.detectors.specs.Cuts.{cut_of, cut_move};
+ghost use Rattle.detectors.specs.CutTables.{cut_table};
 ghost use Rattle.detectors.specs.PatternMeaning.{product_of_sizes};
 
-use cut::{Cut, CutMove};
 use model::sealed::Model;
 use variables::Variables;
 
 mod cut;
 pub mod methods;
 pub(crate) mod operands;
+mod table;
 mod variables;
 mod walking;
 
-/// A model, one to three variables, and the model's moves and goal cut to these once for all rows.
+/// A model, one to three variables, and a table that tells of each cut, by its number, whether it is dead: made once for all rows.
 #[derive(Drop)]
 pub struct Pattern {
     model: Model,
     variables: Variables,
-    moves: Vec<CutMove>,
-    goal: Cut,
+    dead_cuts: Vec<bool>,
     ghost small: { product_of_sizes (recorded model).variables variables ≤ 512 },
-    ghost steps: { moves.items ≡ map (cut_move variables) (recorded model).moves },
-    ghost aim: { goal ≡ cut_of variables (recorded model).goal },
+    ghost told: { dead_cuts.items ≡ cut_table (recorded model) variables },
 }

@@ -1,7 +1,8 @@
 //! Rows cut to the variables of a pattern: the entries of the first, second and third, open where there is no such variable.
-ghost use Rattle.std.specs.Prelude.{◌≡◌};
+ghost use Rattle.std.specs.Prelude.{◌≡◌, ◌<◌, ◌≤◌};
 ghost use Rattle.detectors.specs.Cuts.{contained_cut, applicable_cut, progression_cut};
-ghost use Rattle.detectors.specs.CutMarks.{digit_of, cut_mark};
+ghost use Rattle.detectors.specs.CutMarks.{digit_of, code, cut_mark};
+ghost use Rattle.detectors.specs.CutTables.{entry_at, cut_at};
 ghost use Rattle.detectors.specs.CutMarking.{cut_marking};
 
 use first_come::mark::Mark;
@@ -24,12 +25,43 @@ pub(crate) struct CutMove {
 
 /// An entry as a digit: 0 where it is open, else one more than its value.
 fn digit(entry: Option<u8>) -> usize
-    ensures { result ≡ digit_of entry }
+    ensures digit { result ≡ digit_of entry }
+    ensures small { result ≤ 256 }
 {
     entry.map_or(0, |value| usize::from(value) + 1)
 }
 
+/// The entry that a digit stands for.
+fn entry(digit: usize) -> Option<u8>
+    requires { digit < 17 }
+    ensures { result ≡ entry_at digit }
+{
+    if digit == 0 {
+        None
+    } else {
+        Some((digit - 1) as u8)
+    }
+}
+
 impl Cut {
+    /// The digits as one number, in base 17.
+    pub(crate) fn number(&self) -> usize
+        ensures { result ≡ code self.now }
+    {
+        (digit(self.first) * 17 + digit(self.second)) * 17 + digit(self.third)
+    }
+
+    /// The cut that a number stands for.
+    pub(crate) fn at(number: usize) -> Cut
+        ensures { result ≡ cut_at number }
+    {
+        Cut {
+            first: entry(number / 17 / 17 % 17),
+            second: entry(number / 17 % 17),
+            third: entry(number % 17),
+        }
+    }
+
     /// Whether the other cut has every entry that this one gives.
     pub(crate) fn contained_in(&self, other: &Cut) -> bool
         ensures { result ≡ contained_cut self.now other.now }
@@ -47,11 +79,8 @@ impl Mark for Cut {
     ghost own = { cut_marking };
 
     fn mark(&self) -> Option<usize> {
-        let first = digit(self.first);
-        let second = digit(self.second);
-        let third = digit(self.third);
-        let is_small = first < 17 && second < 17 && third < 17;
-        is_small.then(|| (first * 17 + second) * 17 + third)
+        let is_small = digit(self.first) < 17 && digit(self.second) < 17 && digit(self.third) < 17;
+        is_small.then(|| self.number())
     }
 }
 

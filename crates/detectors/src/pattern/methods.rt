@@ -1,17 +1,20 @@
 //! A pattern is made, and asked the two questions of a detector.
-ghost use Rattle.std.specs.Prelude.{◌≡◌, ◌≤◌, IfOk, slice_index};
+ghost use Rattle.std.specs.Prelude.{◌≡◌, ◌≤◌, true, map, IfOk, slice_index};
 ghost use Rattle.model.specs.Drafts.{recorded};
 ghost use Rattle.detectors.specs.Operands.{pattern_answer};
 ghost use Rattle.detectors.specs.Patterns.{pattern_model, pattern_variables, chosen_or_refused, carried_or_back, MadeDecides, MadeLawful};
-ghost use Rattle.detectors.specs.PatternMeaning.{product_of_sizes, pattern_dead};
+ghost use Rattle.detectors.specs.PatternMeaning.{product_of_sizes, gives, pattern_dead};
+ghost use Rattle.detectors.specs.Cuts.{cut_of, cut_move};
+ghost use Rattle.detectors.specs.CutWalk.{cut_off};
+ghost use Rattle.model.specs.Records.{row_of_model};
 ghost use Rattle.detectors.specs.WorkedVerdicts.{WorkedPatternVerdicts};
 ghost use Rattle.std.proofs.lemmas.Bool.{and_parts};
 ghost use Rattle.model.proofs.SealedModel.{model_sealed};
 
 use super::Pattern;
 use crate::pattern::operands::choose_variables;
+use crate::pattern::table::dead_cuts;
 use crate::pattern::variables::Variables;
-use crate::pattern::walking::is_cut_off;
 use crate::unmade::Unmade;
 use detector::Detector;
 use detector::verdict::Verdict;
@@ -46,14 +49,23 @@ impl Pattern {
         ensures variables { IfOk result (λ p. pattern_variables p ≡ variables) }
         ensures model { IfOk result (λ p. pattern_model p ≡ recorded model) }
     {
-        let moves = variables.cut_moves(heap, model.moves())?;
-        let goal = variables.cut(model.goal());
+        let dead_cuts = dead_cuts(heap, &model, &variables)?;
         Ok(Pattern {
             model,
             variables,
-            moves,
-            goal,
+            dead_cuts,
         })
+    }
+
+    /// Whether the cut of the row is dead.
+    #[tactic(auto, using(crate::proofs::CutTables::table_tells))]
+    fn cuts_off(&self, row: &Row) -> bool
+        requires fits { row_of_model (pattern_model self.now) row.now ≡ true }
+        requires given { gives row.now (pattern_variables self.now) ≡ true }
+        ensures { result ≡ cut_off (map (cut_move (pattern_variables self.now)) (pattern_model self.now).moves) (cut_of (pattern_variables self.now) (pattern_model self.now).goal) (cut_of (pattern_variables self.now) row.now) }
+    {
+        let number = self.variables.cut(row).number();
+        self.dead_cuts.get(number).copied().unwrap_or(false)
     }
 }
 
@@ -71,10 +83,6 @@ impl Detector for Pattern {
     }
 
     fn verdict(&self, row: &Row) -> Verdict {
-        Verdict::dead_if(
-            self.model.fits(row)
-                && self.variables.given_by(row)
-                && is_cut_off(&self.moves, &self.goal, self.variables.cut(row)),
-        )
+        Verdict::dead_if(self.model.fits(row) && self.variables.given_by(row) && self.cuts_off(row))
     }
 }
