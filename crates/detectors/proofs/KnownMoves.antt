@@ -1,5 +1,5 @@
 -- What is known of moves stays so while facts are listed, and spares looking again.
-use Rattle.std.proofs.Common.{◌≡◌, ℕ, ◌<◌, ◌≤◌, Bool, true, List, [], ◌∷◌, length, replicate, get_or, set, ◌≢◌, Some, None, Option, sym, refl, ap, ◌∙◌, subst, ⊎_elim, arith}
+use Rattle.std.proofs.Common.{◌≡◌, ℕ, ◌<◌, ◌≤◌, Bool, true, false, List, [], ◌∷◌, length, replicate, get_or, set, ◌≢◌, Some, None, Option, sym, refl, ap, ◌∙◌, subst, ⊎_elim, arith}
 use Rattle.std.proofs.lemmas.Bool.{cond-true, cond-false, false_from_ne_true, cond_both, cases_eq, cases_lt, or_left, or_right, ltb-true, both_ways}
 use Rattle.std.proofs.lemmas.List.{get_or-set_same, get_or-set_other, get_or-replicate, get_or_past, length-replicate}
 use Rattle.std.proofs.lemmas.Option.{slice_get_read}
@@ -65,18 +65,19 @@ module _ (k : Kept Fact) (m : Move) where
   all_known n all known = (all_below_decides here 32).1 (λ v l. known.reached v (omega (arith, l, all)))
 
   -- a move that was done is tried in vain
-  pub tried_before : (n : ℕ) → 32 ≤ n → Known k m n → try_move k m ≡ k
-  tried_before n all known = cond-true (all_reached (arrived k) m.conditions) _ _ (all_known n all known) ∙ kept_as_it_is k (given_facts m.effects) (known.listed all)
+  pub tried_before : (n : ℕ) → 32 ≤ n → Known k m n → k ≡ try_move k m
+  tried_before n all known = sym (cond-true (all_reached (arrived k) m.conditions) _ _ (all_known n all known) ∙ kept_as_it_is k (given_facts m.effects) (known.listed all))
 
   module _ (n r : ℕ) (known : Known k m n) (upto : ReachedUpTo k m.conditions n r) where
     reached_before : (v : ℕ) → v < r → ReachedAt k m.conditions v
     reached_before v l = ⊎_elim (λ (b : v < n). known.reached v b) (λ (a : n ≤ v). upto.reached v a l) (cases_lt v n)
 
     -- and so is one of which a condition is not reached
-    pub missed : r < 32 → try_move k m ≡ k
-    missed l =
-        cond-false (all_reached (arrived k) m.conditions) _ _
-        (false_from_ne_true (all_reached (arrived k) m.conditions) (λ all. both_ways (here r) (upto.stops l) ((all_below_decides here 32).0 all r l)))
+    pub missed : r < 32 → k ≡ try_move k m
+    missed l = sym (cond-false (all_reached (arrived k) m.conditions) _ _ not_all)
+      where
+        not_all : all_reached (arrived k) m.conditions ≡ false
+        not_all = false_from_ne_true (all_reached (arrived k) m.conditions) (λ all. both_ways (here r) (upto.stops l) ((all_below_decides here 32).0 all r l))
 
     pub known_missed : r < 32 → Known k m r
     known_missed l = record { reached = reached_before; listed = λ all. absurd (omega (arith, l, all)) }

@@ -57,7 +57,7 @@ impl Pattern {
         })
     }
 
-    /// Whether the cut of the row is dead.
+    /// Whether the cut of the row is dead, which the table tells.
     #[tactic(auto, using(crate::proofs::CutTables::table_tells))]
     fn cuts_off(&self, row: &Row) -> bool
         requires fits { row_of_model (pattern_model self.now) row.now ≡ true }

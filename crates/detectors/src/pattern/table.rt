@@ -1,9 +1,8 @@
 //! A table of the dead cuts of a pattern.
-ghost use Rattle.std.specs.Prelude.{◌≡◌, IfOk};
+ghost use Rattle.std.specs.Prelude.{◌≡◌, map, IfOk};
 ghost use Rattle.model.specs.Drafts.{recorded};
 ghost use Rattle.detectors.specs.CutTables.{value_of, whole_cut, dead_cut, cut_table};
 ghost use Rattle.detectors.specs.Cuts.{cut_of, cut_move};
-ghost use Rattle.std.specs.Prelude.{map};
 
 use crate::pattern::cut::{Cut, CutMove};
 use crate::pattern::variables::Variables;
@@ -45,7 +44,7 @@ fn tell_each(
         .collect(heap)
 }
 
-/// Whether the cut gives each of the variables, and no more, and is cut off. No walk is made from another.
+/// Whether the cut gives each of the variables, and no more, and is cut off. From other cuts no walk is made.
 fn is_dead(model: &Model, variables: &Variables, moves: &[CutMove], goal: &Cut, cut: Cut) -> bool
     requires moves { moves.now ≡ map (cut_move variables.now) (recorded model.now).moves }
     requires goal { goal.now ≡ cut_of variables.now (recorded model.now).goal }
