@@ -6,7 +6,7 @@ use Rattle.model.specs.declared.row.Row.{Row}
 use Rattle.model.specs.Records.{ModelRecord}
 use Rattle.walk.specs.declared.walked.Walked.{Walked}
 use Rattle.walk.specs.Answers.{states_of}
-use Rattle.learning.specs.Parts.{regained}
+use Rattle.learning.specs.Parts.{lowest_missing, with_entry_of, regained}
 use Rattle.learning.specs.Learns.{keeps_with, first_affected, regain_lowest, regain_once}
 
 map_in_front : (p : Row) (f : Row → List Row) (o : Option Row) → option_map (λ more. p ∷ more) (option_map f o) ≡ option_map (λ q. p ∷ f q) o
@@ -72,11 +72,19 @@ module _ (d : ModelRecord) (dead : Row → Bool) (rows : List Row) (parts : List
           let here : one.place ≡ k = omega arith in
           rw here at (one.one_regains w p)
 
-      pub is_regained : (more : Row) → Some more ≡ regained (get_or listed k w).state (get_or parts k p) → regain_once d dead rows (states_of listed) parts ≡ Some (set parts k more)
-      is_regained more some = one_regains ∙ ap (option_map (λ next. set parts k next)) (sym some)
+      abbrev state : Row
+      state = (get_or listed k w).state
 
-      pub one_more : (more : Row) → Some more ≡ regained (get_or listed k w).state (get_or parts k p) → is_some (regain_once d dead rows (states_of listed) parts) ≡ true
-      one_more more some = ap (λ o. is_some o) (is_regained more some)
+      abbrev part : Row
+      part = get_or parts k p
 
-      pub is_whole : None ≡ regained (get_or listed k w).state (get_or parts k p) → regain_once d dead rows (states_of listed) parts ≡ None
-      is_whole none = one_regains ∙ ap (option_map (λ next. set parts k next)) (sym none)
+      pub is_regained : (i : ℕ) → Some i ≡ lowest_missing state part → regain_once d dead rows (states_of listed) parts ≡ Some (set parts k (with_entry_of state part i))
+      unfolding regained
+      is_regained i low = one_regains ∙ ap (λ o. option_map (λ more. set parts k more) (option_map (λ n. with_entry_of state part n) o)) (sym low)
+
+      pub one_more : (i : ℕ) → Some i ≡ lowest_missing state part → is_some (regain_once d dead rows (states_of listed) parts) ≡ true
+      one_more i low = ap (λ o. is_some o) (is_regained i low)
+
+      pub is_whole : None ≡ lowest_missing state part → regain_once d dead rows (states_of listed) parts ≡ None
+      unfolding regained
+      is_whole none = one_regains ∙ ap (λ o. option_map (λ more. set parts k more) (option_map (λ n. with_entry_of state part n) o)) (sym none)

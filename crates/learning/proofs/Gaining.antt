@@ -85,10 +85,17 @@ module _ (s p : Row) (i : ℕ) (is_missing : missing s p i ≡ true) where
   gained = ap (with_value p i) given.1
 
   -- the part with it contains what it was
-  gained_more : contained p (with_entry_of s p i) ≡ true
+  pub gained_more : contained p (with_entry_of s p i) ≡ true
   gained_more = rw gained (contained_from p (with_entry p i (Some given.0)) (λ k l. ⊎_elim
       (λ (same : k ≡ i). rw same (keeps_open (at p i) (at (with_entry p i (Some given.0)) i) (not-true (is_some (at p i)) (and_parts (is_some (at s i)) (not (is_some (at p i))) is_missing).1)))
       (λ (other : k ≢ i). rw (at_other p i k (Some given.0) other) (keeps_refl (at p k)))
+      (cases_eq k i)))
+
+  -- and is contained in what contains that and gives the entry
+  pub gained_in : i < 32 → (t : Row) → contained p t ≡ true → keeps (at s i) (at t i) ≡ true → contained (with_entry_of s p i) t ≡ true
+  gained_in l t within gives = rw gained (contained_from (with_entry p i (Some given.0)) t (λ k below. ⊎_elim
+      (λ (same : k ≡ i). rw (same, at_same p i (Some given.0) l, ← given.1) gives)
+      (λ (other : k ≢ i). rw (at_other p i k (Some given.0) other) (contained_at p t within k below))
       (cases_eq k i)))
 
   -- and has no less entries than it had

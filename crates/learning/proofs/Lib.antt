@@ -6,3 +6,7 @@ pub mod Regaining
 pub mod LearnLaws
 pub mod EntriesTold
 pub mod Fronts
+pub mod Covering
+pub mod StandingFacts
+pub mod Growing
+pub mod TableFacts

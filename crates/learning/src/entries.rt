@@ -1,6 +1,6 @@
 //! A part of a state gains entries of the state.
 ghost use Rattle.std.specs.Prelude.{◌≡◌};
-ghost use Rattle.learning.specs.Parts.{disagrees_on, first_part, lowest_disagreeing, lowest_missing, missing, regained, with_entry_of};
+ghost use Rattle.learning.specs.Parts.{disagrees_on, first_part, lowest_disagreeing, lowest_missing, missing, with_entry_of};
 
 use model::entry::entries_differ;
 use model::row::Row;
@@ -27,14 +27,14 @@ fn is_missing(state: &Row, part: &Row, variable: usize) -> bool
 }
 
 /// The lowest variable that the state gives and the part does not.
-fn lowest_missing(state: &Row, part: &Row) -> Option<usize>
+pub(crate) fn lowest_missing(state: &Row, part: &Row) -> Option<usize>
     ensures { result ≡ lowest_missing state.now part.now }
 {
     (0..32).find(|variable| is_missing(state, part, *variable))
 }
 
 /// The part with the state's entry of the variable.
-fn with_entry_of(state: &Row, part: &Row, variable: usize) -> Row
+pub(crate) fn with_entry_of(state: &Row, part: &Row, variable: usize) -> Row
     ensures { result ≡ with_entry_of state.now part.now variable }
 {
     let mut more = *part;
@@ -51,12 +51,4 @@ pub(crate) fn first_part(goal: &Row, state: &Row) -> Row
 {
     let open = Row::open();
     lowest_disagreeing(goal, state).map_or(open, |variable| with_entry_of(state, &open, variable))
-}
-
-/// The part of the state with its lowest missing variable, if one is missing.
-#[tactic(auto, unfolding(crate::specs::Parts::regained))]
-pub(crate) fn regained(state: &Row, part: &Row) -> Option<Row>
-    ensures { result ≡ regained state.now part.now }
-{
-    lowest_missing(state, part).map(|variable| with_entry_of(state, part, variable))
 }

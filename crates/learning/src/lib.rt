@@ -4,3 +4,6 @@
 mod entries;
 pub mod learned;
 pub mod parts;
+mod standing;
+mod standings;
+mod table;

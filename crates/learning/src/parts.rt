@@ -1,15 +1,18 @@
 //! States keep parts of themselves, which regain entries until the rules are kept.
-ghost use Rattle.std.specs.Prelude.{◌≡◌, ◌<◌, ◌≤◌, IfSome, is_some, length, take, unwrap_or};
+ghost use Rattle.std.specs.Prelude.{◌≡◌, ◌≤◌, is_some, length, take, unwrap_or};
 ghost use Rattle.walk.specs.Answers.{states_of};
 ghost use Rattle.learning.specs.Learneds.{entries_of_learned, parts_of_learned};
-ghost use Rattle.learning.specs.Learns.{entries_regained, first_affected, first_parts, learned, most_regained, regain, regain_count, regain_once};
+ghost use Rattle.learning.specs.Learns.{entries_regained, first_parts, learned, most_regained, regain, regain_count, regain_once};
+ghost use Rattle.learning.specs.Standings.{NothingKnown, TableStands};
 ghost use Rattle.learning.specs.Laws.{EntriesToldAreRegained, LearnedPartsKeepTheRules, NoneIsLeftToRegain};
 
-use crate::entries::{first_part, regained};
+use crate::entries::{first_part, lowest_missing, with_entry_of};
 use crate::learned::Learned;
+use crate::standing::Growth;
+use crate::standings::Standings;
+use crate::table::{first_affected, keep_known};
 use detector::Detector;
 use model::row::Row;
-use rules::set::keeps_rule_2_in_both;
 use walk::walked::Walked;
 
 /// Puts what each state keeps at first in the place of its part.
@@ -23,17 +26,6 @@ fn begin<D: Detector>(detector: &D, listed: &[Walked], parts: &mut [Row])
     }
 }
 
-/// The place of the lowest part that breaks rule 2 in the rows with all parts.
-#[tactic(auto, unfolding(crate::specs::Learns::first_affected))]
-fn first_affected<D: Detector>(detector: &D, rows: &[Row], parts: &[Row]) -> Option<usize>
-    ensures within { IfSome result (λ place. place < length parts.now) }
-    ensures lowest { result ≡ first_affected (D.carried detector.now) (D.dead detector.now) rows.now parts.now }
-{
-    parts
-        .iter()
-        .position(|part| !keeps_rule_2_in_both(detector, rows, parts, part))
-}
-
 /// The lowest part that breaks rule 2 regains its lowest missing variable; whether one is regained.
 #[tactic(auto, using(crate::proofs::Affected::none_regains, crate::proofs::Affected::is_regained, crate::proofs::Affected::one_more, crate::proofs::Affected::is_whole))]
 fn regain_once<D: Detector>(
@@ -41,34 +33,53 @@ fn regain_once<D: Detector>(
     rows: &[Row],
     listed: &[Walked],
     parts: &mut [Row],
+    table: &mut [Standings],
 ) -> bool
-    requires { length parts.old ≡ length listed.now }
+    requires few { length listed.now ≤ 256 }
+    requires one_for_each { length parts.old ≡ length listed.now }
+    requires room { length parts.old ≤ length table.old }
+    requires right { TableStands (D.carried detector.now) (D.dead detector.now) rows.now parts.old table.old }
     ensures any { result ≡ is_some (regain_once (D.carried detector.now) (D.dead detector.now) rows.now (states_of listed.now) parts.old) }
     ensures after { parts.new ≡ unwrap_or (regain_once (D.carried detector.now) (D.dead detector.now) rows.now (states_of listed.now) parts.old) parts.old }
+    ensures right { TableStands (D.carried detector.now) (D.dead detector.now) rows.now parts.new table.new }
 {
-    let Some(place) = first_affected(detector, rows, parts) else {
+    let Some(place) = first_affected(detector, rows, parts, table) else {
         return false;
     };
-    match regained(&listed[place].state, &parts[place]) {
-        Some(more) => {
-            parts[place] = more;
-            true
-        }
-        None => false,
-    }
+    let state = &listed[place].state;
+    let part = parts[place];
+    let Some(variable) = lowest_missing(state, &part) else {
+        return false;
+    };
+    parts[place] = with_entry_of(state, &part, variable);
+    let growth = Growth {
+        place,
+        variable,
+        entry: state.entry(variable),
+    };
+    keep_known(detector.model().moves(), parts, &growth, table);
+    true
 }
 
 /// Entries are regained, one by one, while the lowest part that breaks rule 2 has one missing; how many.
 #[tactic(auto, using(crate::proofs::Regaining::none_left, crate::proofs::Regaining::unchanged, crate::proofs::Regaining::no_more))]
-fn regain<D: Detector>(detector: &D, rows: &[Row], listed: &[Walked], parts: &mut [Row]) -> usize
+fn regain<D: Detector>(
+    detector: &D,
+    rows: &[Row],
+    listed: &[Walked],
+    parts: &mut [Row],
+    table: &mut [Standings],
+) -> usize
     requires few { length listed.now ≤ 256 }
     requires one_for_each { length parts.old ≡ length listed.now }
+    requires room { length parts.old ≤ length table.old }
+    requires right { TableStands (D.carried detector.now) (D.dead detector.now) rows.now parts.old table.old }
     ensures after { parts.new ≡ regain (D.carried detector.now) (D.dead detector.now) rows.now (states_of listed.now) (most_regained (states_of listed.now)) parts.old }
     ensures entries { result ≡ regain_count (D.carried detector.now) (D.dead detector.now) rows.now (states_of listed.now) (most_regained (states_of listed.now)) parts.old }
 {
     let most = 32 * listed.len();
     for entries in 0..most {
-        if !regain_once(detector, rows, listed, parts) {
+        if !regain_once(detector, rows, listed, parts, table) {
             return entries;
         }
     }
@@ -76,20 +87,23 @@ fn regain<D: Detector>(detector: &D, rows: &[Row], listed: &[Walked], parts: &mu
 }
 
 /// Learns the parts of the states.
-#[tactic(auto, unfolding(crate::specs::Learns::learned, crate::specs::Learns::entries_regained))]
+#[tactic(auto, using(crate::proofs::TableFacts::nothing_stands), unfolding(crate::specs::Learns::learned, crate::specs::Learns::entries_regained))]
 fn learn_parts<D: Detector>(
     detector: &D,
     rows: &[Row],
     listed: &[Walked],
     parts: &mut [Row],
+    table: &mut [Standings],
 ) -> usize
     requires few { length listed.now ≤ 256 }
     requires one_for_each { length parts.old ≡ length listed.now }
+    requires room { length listed.now ≤ length table.old }
+    requires new { NothingKnown table.old }
     ensures parts { parts.new ≡ learned (D.carried detector.now) (D.dead detector.now) rows.now (states_of listed.now) }
     ensures entries { result ≡ entries_regained (D.carried detector.now) (D.dead detector.now) rows.now (states_of listed.now) }
 {
     begin(detector, listed, parts);
-    regain(detector, rows, listed, parts)
+    regain(detector, rows, listed, parts, table)
 }
 
 /// The same into the front of a buffer.
@@ -98,14 +112,17 @@ fn learn_front<D: Detector>(
     rows: &[Row],
     listed: &[Walked],
     front: &mut [Row],
+    table: &mut [Standings],
 ) -> usize
     requires few { length listed.now ≤ 256 }
     requires room { length listed.now ≤ length front.old }
+    requires room_for_standings { length listed.now ≤ length table.old }
+    requires new { NothingKnown table.old }
     ensures parts { take (length listed.now) front.new ≡ learned (D.carried detector.now) (D.dead detector.now) rows.now (states_of listed.now) }
     ensures entries { result ≡ entries_regained (D.carried detector.now) (D.dead detector.now) rows.now (states_of listed.now) }
     ensures room { length front.new ≡ length front.old }
 {
-    learn_parts(detector, rows, listed, &mut front[..listed.len()])
+    learn_parts(detector, rows, listed, &mut front[..listed.len()], table)
 }
 
 /// The first 256 of the list at most.
@@ -124,7 +141,8 @@ fn learn_few<D: Detector>(detector: &D, rows: &[Row], listed: &[Walked]) -> Lear
     ensures entries { entries_of_learned result ≡ entries_regained (D.carried detector.now) (D.dead detector.now) rows.now (states_of listed.now) }
 {
     let mut front = [Row::open(); 256];
-    let entries = learn_front(detector, rows, listed, &mut front);
+    let mut table = [Standings::unknown(); 256];
+    let entries = learn_front(detector, rows, listed, &mut front, &mut table);
     Learned {
         rows: front,
         count: listed.len(),
