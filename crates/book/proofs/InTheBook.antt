@@ -5,12 +5,12 @@ use Rattle.std.proofs.lemmas.Bool.{false≢true}
 use Rattle.model.specs.declared.row.Row.{Row}
 use Rattle.model.specs.declared.moves.Move.{Move}
 use Rattle.model.specs.Moves.{applicable, progression}
-use Rattle.model.specs.Members.{Among}
+use Rattle.lists.specs.Members.{Among}
 use Rattle.model.specs.Records.{ModelRecord, Sealed, row_of_model}
 use Rattle.rules.specs.Rules.{covers, stays_in}
-use Rattle.rules.proofs.Members.{covers_both}
-use Rattle.rules.proofs.RuleLaws.{progression_fits}
+use Rattle.rules.proofs.Covering.{covers_both}
 use Rattle.book.specs.Verdicts.{book_dead}
+use Rattle.model.proofs.Progressions.{row_progresses}
 
 -- either may be asked first
 pub either_first : (a b : Bool) → (a || b) ≡ (b || a)
@@ -27,4 +27,4 @@ module _ (d : ModelRecord) (dead : Row → Bool) (rows set : List Row) where
 
   pub rule_2_in_the_book : Sealed d → (r : Row) → row_of_model d r ≡ true → (m : Move) → Among d.moves m → stays_in (book_dead d dead rows) set r m ≡ stays_in dead (rows ++ set) r m
   rule_2_in_the_book sealed r fits m among =
-      ap (λ b. not (applicable m r) || b) (called_in_the_book (progression m r) (progression_fits d sealed m among r fits))
+      ap (λ b. not (applicable m r) || b) (called_in_the_book (progression m r) (row_progresses d sealed m among r fits))

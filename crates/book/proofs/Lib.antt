@@ -11,5 +11,4 @@ pub mod ProbeCases
 pub mod ProbeRight
 pub mod TakenEntries
 pub mod ProbeSteps
-pub mod Laying
 pub mod RowBytes

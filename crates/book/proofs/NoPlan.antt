@@ -5,38 +5,25 @@ use Rattle.std.proofs.lemmas.Bool.Decides.{nat_tests}
 use Rattle.std.specs.List.{list_all}
 use Rattle.model.specs.declared.row.Row.{Row}
 use Rattle.model.specs.Limits.{move_fits, complete}
-use Rattle.model.specs.Members.{Among}
+use Rattle.lists.specs.Members.{Among}
 use Rattle.model.specs.MoveLaws.{SmallerRowKeepsMovesApplicable, SmallerRowHasSmallerProgression}
 use Rattle.model.specs.Moves.{progression}
 use Rattle.model.specs.Plans.{Plan}
 use Rattle.model.specs.Records.{ModelRecord, Sealed, row_of_model, state_of_model}
 use Rattle.model.specs.RowLaws.{ContainmentIsTransitive}
 use Rattle.model.specs.Rows.{at, keeps, differ, contained, disagree}
-use Rattle.model.proofs.BelowFacts.{any_below_decides}
-use Rattle.model.proofs.Containment.{contained_at, contained_transitive}
-use Rattle.model.proofs.Members.{nth_among, all_among}
+use Rattle.lists.proofs.BelowFacts.{any_below_decides}
+use Rattle.model.proofs.Containment.{contained_at, contained_transitive, contains_no_two}
+use Rattle.lists.proofs.Members.{nth_among, all_among, among_right}
 use Rattle.model.proofs.Progressions.{smaller_applicable, smaller_progression, state_progresses}
 use Rattle.detector.specs.Laws.{Lawful, EqualMeaning, EqualMeaningKeepsTheLaws}
 use Rattle.detector.proofs.EqualMeaning.{keeps_the_laws}
 use Rattle.book.specs.Laws.{NoStateWithARowOfTheSetHasAPlan, BookIsLawful, StaysLawful}
 use Rattle.rules.specs.Rules.{covers, keeps_rules, KeepsBothRules}
 use Rattle.book.specs.Verdicts.{book_dead}
-use Rattle.rules.proofs.Members.{among_right, covering, covered, covers_both}
+use Rattle.rules.proofs.Covering.{covering, covered, covers_both}
 use Rattle.rules.proofs.RuleLaws.{rules_at, rules_from, rules_told, rule_2_at, rule_2_from}
 use Rattle.book.proofs.InTheBook.{rule_2_in_the_book}
-
--- entries that a third row has both do not differ
-agree_in : (a b e : Option ℕ) → keeps a e ≡ true → keeps b e ≡ true → differ a b ≡ false
-agree_in None b e p q = refl
-agree_in (Some v) None e p q = refl
-agree_in (Some v) (Some w) None p q = absurd (false≢true p)
-agree_in (Some v) (Some w) (Some x) p q = grind (arith, nat_tests)
-
--- no row contains two that disagree
-contains_no_two : (r g t : Row) → disagree r g ≡ true → contained r t ≡ true → contained g t ≡ true → ⊥
-contains_no_two r g t apart within goal =
-    let found = (any_below_decides (λ i. differ (at r i) (at g i)) 32).0 apart in
-    both_ways _ (agree_in (at r found.0) (at g found.0) (at t found.0) (contained_at r t within found.0 found.1) (contained_at g t goal found.0 found.1)) found.2
 
 pub row_of_state : (d : ModelRecord) (s : Row) → state_of_model d s ≡ true → row_of_model d s ≡ true
 row_of_state d s state = (and_parts (row_of_model d s) (complete d.variables s) state).0

@@ -14,23 +14,22 @@ use Rattle.first_come.proofs.Arrivals.{distinct_push}
 use Rattle.model.specs.declared.row.Row.{Row}
 use Rattle.model.specs.declared.variable.Variable.{Variable}
 use Rattle.model.specs.Limits.{row_fits}
-use Rattle.model.specs.Members.{Among}
+use Rattle.lists.specs.Members.{Among, Within}
 use Rattle.model.specs.Records.{ModelRecord, row_of_model}
 use Rattle.model.specs.Rows.{same_row}
 use Rattle.model.specs.SameRows.{same_row_decides}
 use Rattle.model.specs.Tables.{Answer}
 use Rattle.model.specs.WrongEntries.{row_checked, RowsWithoutWrongEntriesFit}
-use Rattle.model.proofs.Members.{all_among}
-use Rattle.model.proofs.WrongEntries.{checked_rows_fit}
+use Rattle.lists.proofs.Members.{all_among, among_left, among_right, among_cases, all_from, all_both}
+use Rattle.model.proofs.WrongEntries.{checked_rows_fit, ok_both}
 use Rattle.book.specs.declared.refused.Refused.{Refused}
 use Rattle.book.specs.Adding.{fresh, room_checked}
 use Rattle.book.specs.Laws.{TogetherTheyKeepTheRulesAndFit, PassesExactly}
 use Rattle.book.specs.Offers.{length_checked, in_row, entries_checked, list_checked, rule_1_checked, rule_2_checked, rows_checked, offer_checked, offer_answer}
 use Rattle.book.specs.Refusals.{Checked, refused, unless_row, unless_step}
 use Rattle.rules.specs.Rules.{keeps_rule_1, stays_in, keeps_rule_2, keeps_rules}
-use Rattle.rules.specs.Searches.{first_failing, first_failing_pair, or_later}
+use Rattle.lists.specs.Searches.{first_failing, first_failing_pair, or_later}
 use Rattle.book.specs.Settles.{left_unmarked, settle_checked}
-use Rattle.rules.proofs.Members.{Within, among_left, among_right, among_cases, all_from, all_both}
 use Rattle.rules.proofs.RuleLaws.{rules_at, rules_from, rules_told, rules_hold, rules_by_members, rule_2_in_more}
 
 -- checks one after another
@@ -47,10 +46,6 @@ module _ {U : Type 0} where
   pub answer_given : (a : Checked) (b : Result U Refused) → is_ok a ≡ true → result_and a b ≡ b
   answer_given (Ok x) b h = refl
   answer_given (Err e) b h = absurd (false≢true h)
-
-ok_both : (a b : Checked) → is_ok (result_and a b) ≡ (is_ok a && is_ok b)
-ok_both (Ok x) b = refl
-ok_both (Err e) b = refl
 
 -- a search finds nothing exactly if each item passes
 none_where : (q : Bool) (n : ℕ) (later : Option ℕ) → is_none (cond q later (Some n)) ≡ (q && is_none later)

@@ -5,10 +5,10 @@ use Rattle.std.specs.Result.{result_and}
 use Rattle.std.proofs.lemmas.Bool.{cond_both, true≢false}
 use Rattle.std.proofs.lemmas.List.{take_all}
 use Rattle.model.specs.declared.row.Row.{Row}
-use Rattle.model.specs.Members.{Among}
+use Rattle.lists.specs.Members.{Among}
 use Rattle.model.specs.Records.{ModelRecord, Sealed, row_of_model}
 use Rattle.model.specs.Rows.{same_row}
-use Rattle.model.proofs.Members.{all_among}
+use Rattle.lists.proofs.Members.{all_among}
 use Rattle.first_come.specs.Arrivals.{Distinct}
 use Rattle.book.specs.declared.refused.Refused.{Refused}
 use Rattle.book.specs.declared.settled.Settled.{Settled}
@@ -18,7 +18,7 @@ use Rattle.book.specs.Offers.{length_checked, entries_checked, list_checked, row
 use Rattle.refusal.specs.declared.Refusal.TheVariants.{LeadsOut}
 use Rattle.book.specs.Refusals.{Checked, refused_step}
 use Rattle.rules.specs.Rules.{keeps_rule_1, keeps_rules, stays_in}
-use Rattle.rules.specs.Searches.{first_failing, first_failing_pair}
+use Rattle.lists.specs.Searches.{first_failing, first_failing_pair}
 use Rattle.settling.specs.Rounds.{left_of, rounds_for}
 use Rattle.book.specs.Settles.{left_unmarked, rounds, settle_checked, settle_answer, settle_rows}
 use Rattle.book.specs.Verdicts.{book_dead}

@@ -7,7 +7,7 @@ use Rattle.model.specs.declared.row.Row.{Row}
 use Rattle.model.specs.Records.{ModelRecord, row_of_model, state_of_model}
 use Rattle.model.specs.Tables.{Answer}
 use Rattle.model.specs.WrongEntries.{row_checked, RowsWithoutWrongEntriesFit}
-use Rattle.model.proofs.WrongEntries.{checked_rows_fit}
+use Rattle.model.proofs.WrongEntries.{checked_rows_fit, row_passes}
 use Rattle.walk.specs.declared.walked.Walked.{Walked}
 use Rattle.book.specs.Probes.{ProbeTold, called_dead, state_checked, probe_outcome, walk_of, walks, probe_answer}
 use Rattle.book.specs.Verdicts.{book_dead, judge_answer}
@@ -19,14 +19,10 @@ check_cases (Ok done) b P fails passes = passes refl
 check_cases (Err why) b P fails passes = fails why refl
 
 module _ (d : ModelRecord) (r : Row) where
-  row_passes : is_ok (row_checked d.variables r) ≡ true → row_of_model d r ≡ true
-  unfolding RowsWithoutWrongEntriesFit
-  row_passes h = sym (checked_rows_fit d.variables r) ∙ h
-
   module _ (gone : Row → Bool) (rows : List Row) where
     -- a judgement is refused for an entry, or tells whether the book calls a row of the model dead
     pub judge_cases : (P : Result Bool Refusal → Type 0) → ((why : Refusal) → row_checked d.variables r ≡ Err why → P (Err why)) → (row_of_model d r ≡ true → P (Ok (book_dead d gone rows r))) → P (judge_answer d gone rows r)
-    judge_cases P wrong told = check_cases (row_checked d.variables r) (Ok (book_dead d gone rows r)) P wrong (λ h. told (row_passes h))
+    judge_cases P wrong told = check_cases (row_checked d.variables r) (Ok (book_dead d gone rows r)) P wrong (λ h. told (row_passes d r h))
 
     -- what the walk from the row answers
     abbrev pub walked_answer : List Walked → List ℕ → Result ProbeTold Refusal

@@ -24,7 +24,8 @@ use Rattle.learning.proofs.LearnLaws.{learned_fit, learned_parts_keep_the_rules}
 use Rattle.learning.specs.Learns.{learned}
 use Rattle.learning.specs.Laws.{LearnedPartsKeepTheRules}
 use Rattle.rules.specs.Rules.{covers, keeps_rules, KeepsBothRules}
-use Rattle.rules.proofs.Members.{among_left, among_right, among_cases, all_from, covering}
+use Rattle.lists.proofs.Members.{among_left, among_right, among_cases, all_from}
+use Rattle.rules.proofs.Covering.{covering}
 use Rattle.rules.proofs.RuleLaws.{rules_told, rules_hold}
 use Rattle.book.specs.Adding.{fresh, overfull}
 use Rattle.book.specs.Laws.{StaysLawful}

@@ -9,7 +9,8 @@ use Rattle.model.specs.Records.{ModelRecord, Sealed, state_of_model}
 use Rattle.detector.specs.Laws.{Lawful}
 use Rattle.walk.specs.declared.walked.Walked.{Walked}
 use Rattle.walk.specs.Walks.{Outcome, planned, exhausted, no_place, WholeWalk}
-use Rattle.walk.specs.Answers.{places_used, over, outcome_plan, plan_after}
+use Rattle.walk.specs.Answers.{places_used, outcome_plan, plan_after}
+use Rattle.lists.specs.Fronts.{over}
 use Rattle.walk.specs.Laws.{WalkTells}
 use Rattle.walk.proofs.WalkLaws.{walk_tells}
 use Rattle.book.specs.Adding.{overfull}

@@ -84,14 +84,6 @@ module _ (d : ModelRecord) (gone : Row → Bool) (rows : List Row) (listed : Lis
     pub parts_are_added : cond (is_ok (room_checked rows parts)) (rows ++ fresh rows parts) rows ≡ learn_rows d gone rows listed
     parts_are_added = rw is (parts_added (overfull rows (parts_of d gone rows listed)))
 
--- what lies at the front of a list that was put over another
-pub front_over : {X : Type 0} (items buffer : List X) (n : ℕ) → n ≡ length items → take n (walking.over items buffer) ≡ items
-front_over items buffer n e = rw e (take_front items (drop (length items) buffer))
-  where
-    take_front : {X : Type 0} (xs ys : List X) → take (length xs) (xs ++ ys) ≡ xs
-    take_front [] ys = refl
-    take_front {X} (x ∷ xs) ys = ap (λ (l : List X). x ∷ l) (take_front xs ys)
-
 -- a row that was taken as a state is one
 pub taken_state : (d : ModelRecord) (t state : Row) → Ok state ≡ result_and (state_checked d.variables t) (Ok t) → (state ≡ t) × (state_of_model d t ≡ true)
 taken_state d t state e =

@@ -31,9 +31,6 @@ pub row_more : (rows : List Row) (i : ℕ) (row : Row) → i < length rows → r
 row_more rows i row l is =
     ap rows_written (drop_more rows i row l) ∙ ap (λ r. rows_written (r ∷ drop (i + 1) rows)) (sym is) ∙ append_assoc (row_written row) _ _
 
-pub rows_ended : (rows : List Row) (i : ℕ) → length rows ≤ i → rows_rest rows i ≡ 0x4f ∷ []
-rows_ended rows i l = ap rows_written (drop_all i rows l)
-
 -- how long it is
 entry_length : (i : ℕ) (e : Option ℕ) → length (entry_written i e) ≡ 3 * cond (is_some e) 1 0
 entry_length i None = refl
@@ -49,9 +46,3 @@ entries_length row (x ∷ xs) =
 pub row_length : (row : Row) → length (row_written row) ≡ 3 * length (filter (λ k. is_some (at row k)) (range_with_len 0 32)) + 1
 unfolding entries_written
 row_length row = omega (arith, length-append (entries_written row 0 32) (0x4e ∷ []), entries_length row (range_with_len 0 32), length-filter (λ k. is_some (at row k)) (range_with_len 0 32))
-
-pub length_more : (rows : List Row) (i : ℕ) (row : Row) → i < length rows → row ≡ get_or rows i row → length (rows_rest rows i) ≡ length (row_written row) + length (rows_rest rows (i + 1))
-length_more rows i row l is = ap length (row_more rows i row l is) ∙ length-append (row_written row) _
-
-pub length_some : (rows : List Row) → 1 ≤ length (rows_written rows)
-length_some rows = omega (arith, length-append (flat_map row_written rows) (0x4f ∷ []))

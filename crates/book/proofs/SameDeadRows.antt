@@ -5,20 +5,20 @@ use Rattle.std.specs.Result.{result_and}
 use Rattle.refusal.specs.declared.Refusal.TheVariants.{LeadsOut}
 use Rattle.model.specs.declared.row.Row.{Row}
 use Rattle.model.specs.declared.moves.Move.{Move}
-use Rattle.model.specs.Members.{Among}
+use Rattle.lists.specs.Members.{Among}
 use Rattle.model.specs.Moves.{applicable, progression}
 use Rattle.model.specs.Records.{ModelRecord, Sealed, row_of_model}
 use Rattle.model.specs.WrongEntries.{row_checked, RowsWithoutWrongEntriesFit}
-use Rattle.model.proofs.Members.{all_among}
+use Rattle.lists.proofs.Members.{all_among}
 use Rattle.model.proofs.WrongEntries.{checked_rows_fit}
 use Rattle.rules.specs.Rules.{covers, stays_in}
-use Rattle.rules.proofs.RuleLaws.{progression_fits}
 use Rattle.book.specs.Adding.{fresh, room_checked}
 use Rattle.book.specs.Offers.{list_checked, rule_1_checked, rule_2_checked, rows_checked, offer_checked, offer_answer, offer_rows}
 use Rattle.book.specs.Refusals.{unless_step}
 use Rattle.book.specs.Verdicts.{judge_answer}
 use Rattle.book.proofs.OfferLaws.{list_fit}
 use Rattle.book.proofs.Orders.{pairs_alike}
+use Rattle.model.proofs.Progressions.{row_progresses}
 
 -- what is asked behind a check matters only where that passes
 behind : {T U E : Type 0} (a : Result T E) (b c : Result U E) → (is_ok a ≡ true → b ≡ c) → result_and a b ≡ result_and a c
@@ -34,7 +34,7 @@ module _ (d : ModelRecord) (dead gone : Row → Bool) (same : (t : Row) → row_
   module _ (sealed : Sealed d) where
     stays_alike : (set : List Row) (r : Row) → row_of_model d r ≡ true → (m : Move) → Among d.moves m → stays_in dead set r m ≡ stays_in gone set r m
     stays_alike set r fits m among =
-        ap (λ b. not (applicable m r) || (b || covers set (progression m r))) (same (progression m r) (progression_fits d sealed m among r fits))
+        ap (λ b. not (applicable m r) || (b || covers set (progression m r))) (same (progression m r) (row_progresses d sealed m among r fits))
 
     rule_2_alike : (set list : List Row) → list_all (row_of_model d) list ≡ true → rule_2_checked d dead set list ≡ rule_2_checked d gone set list
     rule_2_alike set list fit =

@@ -4,9 +4,9 @@ use Rattle.std.proofs.lemmas.Bool.{cond-true}
 use Rattle.std.specs.List.{list_all}
 use Rattle.std.specs.Result.{result_and}
 use Rattle.model.specs.declared.row.Row.{Row}
-use Rattle.model.specs.Members.{Among}
+use Rattle.lists.specs.Members.{Among, Within}
 use Rattle.model.specs.Records.{ModelRecord, Sealed, row_of_model}
-use Rattle.model.proofs.Members.{all_among}
+use Rattle.lists.proofs.Members.{all_among, all_from}
 use Rattle.book.specs.declared.settled.Settled.{Settled}
 use Rattle.book.specs.Adding.{fresh, room_checked}
 use Rattle.book.specs.Laws.{SettlesTheLargestSelection}
@@ -19,7 +19,6 @@ use Rattle.settling.specs.Selections.{picked}
 use Rattle.settling.proofs.Largest.{left_from, length_left, left_keeps_rules, left_is_largest}
 use Rattle.book.specs.Settles.{left_unmarked, settle_checked, settle_answer, settle_rows}
 use Rattle.book.specs.Verdicts.{book_dead}
-use Rattle.rules.proofs.Members.{Within, all_from}
 use Rattle.book.proofs.NoPlan.{rules_in_the_book}
 use Rattle.book.proofs.OfferLaws.{ok_parts, answer_given, short_list, room_left, settle_fit, added_rules, rules_together, offer_passes, passes_offer}
 use Rattle.rules.proofs.RuleLaws.{rules_at, rules_told, rules_hold, rule_2_at, rule_2_from}

@@ -13,21 +13,10 @@ use Rattle.model.specs.Rows.{at, open_row}
 use Rattle.model.specs.SameRows.{row_ext}
 use Rattle.model.specs.Tables.{Answer}
 use Rattle.model.specs.WrongEntries.{row_checked, RowsWithoutWrongEntriesFit}
-use Rattle.model.proofs.BelowFacts.{all_below_decides}
-use Rattle.model.proofs.Progressions.{fits_at}
+use Rattle.lists.proofs.BelowFacts.{all_below_decides}
+use Rattle.model.proofs.Progressions.{fits_at, entry_fits_none}
 use Rattle.model.proofs.WrongEntries.{checked_rows_fit}
 use Rattle.book.specs.Probes.{given_checked}
-
-pub row_fits_if_checked : (d : ModelRecord) (t : Row) → row_checked d.variables t ≡ Ok tt → row_of_model d t ≡ true
-unfolding RowsWithoutWrongEntriesFit
-row_fits_if_checked d t h = sym (checked_rows_fit d.variables t) ∙ ap (λ (a : Answer). is_ok a) h
-
-nothing_fits : (k : ℕ) (e : Option ℕ) → k ≡ 0 → entry_fits k e ≡ true → e ≡ None
-nothing_fits k None z h = refl
-nothing_fits k (Some v) z h = absurd (none_below v k z h)
-  where
-    none_below : (v k : ℕ) → k ≡ 0 → nat_lt v k ≡ true → ⊥
-    none_below v k z h = grind (arith, nat_tests)
 
 -- The entries of the variables below n are given, and are taken into the state, which gives nothing else.
 pub record TakenBelow (n : ℕ) (row state : Row) : Type 0 where
@@ -65,4 +54,4 @@ module _ (vs : List Variable) (row : Row) where
       split i n = cases_lt i n
 
       nothing_behind : (i : ℕ) → i < 32 → length vs ≤ i → at row i ≡ None
-      nothing_behind i less behind = nothing_fits (size_at vs i) (at row i) (ap (λ (v : Variable). v.size) (get_or_past vs i no_variable behind)) (fits_at vs row fits i less)
+      nothing_behind i less behind = entry_fits_none (size_at vs i) (at row i) (ap (λ (v : Variable). v.size) (get_or_past vs i no_variable behind)) (fits_at vs row fits i less)

@@ -2,7 +2,7 @@
 use Rattle.std.specs.Prelude.{◌≡◌, ◌≤◌, ℕ, ◌+◌, Bool, true, List, ◌++◌, length, take, Ok, Result, is_ok}
 use Rattle.model.specs.declared.row.Row.{Row}
 use Rattle.model.specs.Rows.{contained}
-use Rattle.model.specs.Members.{Among}
+use Rattle.lists.specs.Members.{Among}
 use Rattle.model.specs.Plans.{Plan, ShortestPlan}
 use Rattle.model.specs.Records.{ModelRecord, Sealed, row_of_model, state_of_model}
 use Rattle.detector.specs.Laws.{Lawful}

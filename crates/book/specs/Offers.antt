@@ -8,7 +8,7 @@ use Rattle.model.specs.Records.{ModelRecord}
 use Rattle.model.specs.Tables.{Answer}
 use Rattle.model.specs.WrongEntries.{row_checked}
 use Rattle.book.specs.declared.refused.Refused.{Refused}
-use Rattle.rules.specs.Searches.{first_failing, first_failing_pair}
+use Rattle.lists.specs.Searches.{first_failing, first_failing_pair}
 use Rattle.rules.specs.Rules.{keeps_rule_1, stays_in}
 use Rattle.book.specs.Refusals.{Checked, refused, refused_row, unless_row, unless_step}
 use Rattle.book.specs.Adding.{fresh, room_checked}

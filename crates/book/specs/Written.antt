@@ -5,6 +5,7 @@ use Rattle.refusal.specs.declared.Refusal.{Refusal}
 use Rattle.refusal.specs.declared.Refusal.TheVariants.{BufferTooShort}
 use Rattle.model.specs.declared.row.Row.{Row}
 use Rattle.model.specs.Rows.{at}
+use Rattle.lists.specs.Fronts.{over}
 
 -- an entry as it is written, if it is given: the entry command, the variable and the value
 abbrev pub entry_written : ℕ → Option ℕ → List ℕ
@@ -29,4 +30,4 @@ write_answer buffer rows = cond (nat_le (length (rows_written rows)) (length buf
 
 -- the front of the buffer has what is written, and the other bytes are kept; where the buffer is shorter nothing changes
 abbrev pub buffer_after : List ℕ → List Row → List ℕ
-buffer_after buffer rows = cond (nat_le (length (rows_written rows)) (length buffer)) (rows_written rows ++ drop (length (rows_written rows)) buffer) buffer
+buffer_after buffer rows = cond (nat_le (length (rows_written rows)) (length buffer)) (over (rows_written rows) buffer) buffer

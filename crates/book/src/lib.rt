@@ -1,4 +1,4 @@
-//! The book: rows that are known to be dead, over any detector. It is a detector again, and only its orders change it.
+//! The book: rows that keep the two rules, over any detector; over a lawful one they are dead. It is a detector again, and only its orders change it.
 #![tactic(auto)]
 
 mod adding;

@@ -8,7 +8,7 @@ use refusal::Refusal;
 
 /// Writes the rows at the front of the buffer: each by the commands that enter it and list it, and at the end the one that offers the
 /// list. Tells how many bytes that are. A buffer that is too short is left as it was.
-#[tactic(auto, using(std::proofs::lemmas::Bool::Decides::nat_tests, crate::proofs::Laying::sets_front))]
+#[tactic(auto, using(std::proofs::lemmas::Bool::Decides::nat_tests, lists::proofs::Laying::sets_front))]
 pub(crate) fn write_rows(rows: &[Row], buffer: &mut [u8]) -> Result<usize, Refusal>
     ensures answer { result ≡ write_answer buffer.old rows.now }
     ensures after { buffer.new ≡ buffer_after buffer.old rows.now }

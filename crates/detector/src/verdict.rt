@@ -3,7 +3,7 @@ ghost use Rattle.std.specs.Prelude.{◌≡◌};
 ghost use Rattle.detector.specs.Verdicts.{says_dead};
 
 /// A verdict on a row.
-#[derive(Clone, Copy, PartialEq, Eq)]
+#[derive(Clone, Copy, Debug, PartialEq, Eq)]
 pub enum Verdict {
     /// The row is in the dead set. Where the detector keeps the two laws, no state that contains the row has a plan.
     Dead,

@@ -9,7 +9,7 @@ use Rattle.first_come.proofs.Listings.{keep_from, Holds, holds_on, holds_now, li
 use Rattle.first_come.proofs.Fronts.{has_nth}
 use Rattle.model.specs.declared.row.Row.{Row}
 use Rattle.model.specs.declared.moves.Move.{Move}
-use Rattle.model.specs.Members.{Among}
+use Rattle.lists.specs.Members.{Among}
 use Rattle.model.specs.Records.{ModelRecord, row_of_model, Sealed}
 use Rattle.detectors.specs.declared.pattern.cut.Cut.{Cut}
 use Rattle.detectors.specs.declared.pattern.cut.CutMove.{CutMove}

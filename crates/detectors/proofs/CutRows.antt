@@ -3,11 +3,11 @@ use Rattle.std.proofs.Common.{◌≡◌, ℕ, ◌<◌, ◌≤◌, true, false, e
 use Rattle.std.proofs.lemmas.Bool.{and_parts, or_left, or_right, or_cases, or_parts, not-true, not_from_false, cond-true, cond_both, eqb-true, eq-eqb, false≢true, cases_lt}
 use Rattle.model.specs.declared.row.Row.{Row}
 use Rattle.model.specs.declared.moves.Move.{Move}
-use Rattle.model.specs.Members.{Among}
+use Rattle.lists.specs.Members.{Among}
 use Rattle.model.specs.Rows.{at, keeps, differ, contained, disagree}
 use Rattle.model.specs.Moves.{applicable, progression}
 use Rattle.model.specs.Records.{ModelRecord}
-use Rattle.model.proofs.BelowFacts.{any_below_fails}
+use Rattle.lists.proofs.BelowFacts.{any_below_fails}
 use Rattle.model.proofs.RowFacts.{at_row_of, open_past}
 use Rattle.model.proofs.Containment.{contained_from}
 use Rattle.detectors.specs.declared.pattern.cut.Cut.{Cut}

@@ -7,10 +7,10 @@ use Rattle.first_come.specs.Arrivals.{Kept, has, keep_all}
 use Rattle.first_come.proofs.Listings.{has_append, has_left, has_right, keep_all_append}
 use Rattle.model.specs.declared.row.Row.{Row}
 use Rattle.model.specs.declared.variable.Variable.{Variable}
-use Rattle.model.specs.Below.{all_below}
+use Rattle.lists.specs.Below.{all_below}
 use Rattle.model.specs.Limits.{size_at, entry_fits, row_fits}
 use Rattle.model.specs.Rows.{at}
-use Rattle.model.proofs.BelowFacts.{all_below_decides}
+use Rattle.lists.proofs.BelowFacts.{all_below_decides}
 use Rattle.model.proofs.Progressions.{fits_at}
 use Rattle.model.proofs.RowFacts.{open_past}
 use Rattle.detectors.specs.declared.relaxed.fact.Fact.{Fact}

@@ -9,7 +9,7 @@ use Rattle.first_come.proofs.Arrivals.{put_cases, arrived_next}
 use Rattle.first_come.proofs.Listings.{has_left, through_all, Holds, holds_on, holds_each}
 use Rattle.model.specs.declared.moves.Move.{Move}
 use Rattle.model.specs.Rows.{at}
-use Rattle.model.proofs.BelowFacts.{all_below_decides}
+use Rattle.lists.proofs.BelowFacts.{all_below_decides}
 use Rattle.detectors.specs.declared.relaxed.fact.Fact.{Fact}
 use Rattle.detectors.specs.Facts.{fact_of, same_fact, given_facts, entry_reached, all_reached}
 use Rattle.detectors.specs.Closure.{try_move}

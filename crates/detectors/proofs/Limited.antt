@@ -4,8 +4,8 @@ use Rattle.std.proofs.lemmas.List.{get_or_past}
 use Rattle.std.proofs.lemmas.Bool.{cases_lt, and_parts, leb-true}
 use Rattle.model.specs.declared.variable.Variable.{Variable}
 use Rattle.model.specs.declared.moves.Move.{Move}
-use Rattle.model.specs.Members.{Among}
-use Rattle.model.proofs.Members.{all_among}
+use Rattle.lists.specs.Members.{Among}
+use Rattle.lists.proofs.Members.{all_among}
 use Rattle.model.specs.Limits.{size_at, size_fits, sizes_fit, no_variable, row_fits, move_fits}
 use Rattle.model.specs.Records.{ModelRecord, Sealed}
 use Rattle.detectors.specs.declared.relaxed.fact.Fact.{Fact}

@@ -6,7 +6,7 @@ use Rattle.model.specs.Rows.{contained}
 use Rattle.model.specs.Moves.{progression}
 use Rattle.model.specs.Plans.{Leads}
 use Rattle.model.specs.Records.{ModelRecord, row_of_model, Sealed}
-use Rattle.model.proofs.Members.{nth_among}
+use Rattle.lists.proofs.Members.{nth_among}
 use Rattle.detector.specs.Laws.{Lawful}
 use Rattle.detectors.specs.declared.pattern.cut.Cut.{Cut}
 use Rattle.detectors.specs.declared.pattern.variables.Variables.{Variables}

@@ -8,7 +8,7 @@ use Rattle.first_come.proofs.Listings.{keep_all_from, through_all, Holds, holds_
 use Rattle.model.specs.declared.row.Row.{Row}
 use Rattle.model.specs.declared.moves.Move.{Move}
 use Rattle.model.specs.Limits.{size_at}
-use Rattle.model.specs.Members.{Among}
+use Rattle.lists.specs.Members.{Among}
 use Rattle.model.specs.Records.{ModelRecord, Sealed, row_of_model}
 use Rattle.model.specs.Rows.{at}
 use Rattle.detectors.specs.declared.relaxed.fact.Fact.{Fact}

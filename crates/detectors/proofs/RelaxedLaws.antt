@@ -5,14 +5,14 @@ use Rattle.std.proofs.lemmas.Bool.Decides.{nat_tests}
 use Rattle.model.specs.declared.row.Row.{Row}
 use Rattle.model.specs.declared.moves.Move.{Move}
 use Rattle.model.specs.Limits.{move_fits, complete}
-use Rattle.model.specs.Members.{Among}
+use Rattle.lists.specs.Members.{Among}
 use Rattle.model.specs.Moves.{or_else, next_entry, applicable, progression}
 use Rattle.model.specs.Plans.{Leads, Plan}
 use Rattle.model.specs.Records.{ModelRecord, Sealed, row_of_model, state_of_model}
 use Rattle.model.specs.Rows.{at, keeps, differ, contained}
-use Rattle.model.proofs.BelowFacts.{all_below_decides}
+use Rattle.lists.proofs.BelowFacts.{all_below_decides}
 use Rattle.model.proofs.Containment.{contained_at}
-use Rattle.model.proofs.Members.{nth_among, all_among}
+use Rattle.lists.proofs.Members.{nth_among, all_among}
 use Rattle.model.proofs.Progressions.{differ_nowhere, state_progresses}
 use Rattle.model.proofs.RowFacts.{at_row_of}
 use Rattle.detector.specs.Laws.{Lawful}

@@ -4,7 +4,7 @@ use Rattle.std.proofs.lemmas.Bool.{cond_both, cases_eq}
 use Rattle.first_come.specs.Arrivals.{Kept, arrived}
 use Rattle.first_come.proofs.Growth.{Grows, grows_none, grows_on, grows_keep_all}
 use Rattle.model.specs.declared.moves.Move.{Move}
-use Rattle.model.specs.Members.{Among}
+use Rattle.lists.specs.Members.{Among}
 use Rattle.detectors.specs.declared.relaxed.fact.Fact.{Fact}
 use Rattle.detectors.specs.Facts.{same_fact, all_reached, given_facts}
 use Rattle.detectors.specs.Closure.{try_move, round, rounds, closure}

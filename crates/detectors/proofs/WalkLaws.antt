@@ -7,8 +7,9 @@ use Rattle.std.proofs.lemmas.Option.{slice_get_within}
 use Rattle.std.proofs.lemmas.Bool.{cond_both, cases_eq, or_cases, or_left, or_right, false≢true}
 use Rattle.first_come.specs.Arrivals.{Kept, arrived, has, keep, keep_all}
 use Rattle.first_come.proofs.Listings.{keep_all_from, through_all, has_append, has_left, has_right, Holds, holds_on, holds_each, Sized, sized_on}
-use Rattle.first_come.proofs.Fronts.{nth_none, nth_has, front_keep_all}
-use Rattle.model.specs.Members.{Among}
+use Rattle.lists.proofs.Fronts.{nth_none}
+use Rattle.first_come.proofs.Fronts.{nth_has, front_keep_all}
+use Rattle.lists.specs.Members.{Among}
 use Rattle.detectors.specs.declared.pattern.cut.Cut.{Cut}
 use Rattle.detectors.specs.declared.pattern.cut.CutMove.{CutMove}
 use Rattle.detectors.specs.Cuts.{same_cut, contained_cut, applicable_cut, progression_cut}

@@ -1,6 +1,6 @@
 -- The worked verdicts, by computing.
 use Rattle.std.proofs.Common.{refl}
-use Rattle.model.specs.Below.{all_below}
+use Rattle.lists.specs.Below.{all_below}
 use Rattle.detectors.specs.Facts.{facts_from}
 use Rattle.detectors.specs.Closure.{first_facts, goal_missed}
 use Rattle.detectors.specs.CutWalk.{walk_from, walked, cut_off}

@@ -3,7 +3,7 @@ use Rattle.std.specs.Prelude.{ℕ, zero, suc, ◌+◌, ◌*◌, Bool, true, cond
 use Rattle.first_come.specs.Arrivals.{has}
 use Rattle.model.specs.declared.row.Row.{Row}
 use Rattle.model.specs.declared.variable.Variable.{Variable}
-use Rattle.model.specs.Below.{all_below}
+use Rattle.lists.specs.Below.{all_below}
 use Rattle.model.specs.Limits.{size_at}
 use Rattle.model.specs.Rows.{at}
 use Rattle.detectors.specs.declared.relaxed.fact.Fact.{Fact}

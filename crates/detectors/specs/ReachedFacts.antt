@@ -3,7 +3,7 @@ use Rattle.std.specs.Prelude.{◌≡◌, ℕ, ◌<◌, Bool, true, Some, None, D
 use Rattle.model.specs.declared.row.Row.{Row}
 use Rattle.model.specs.declared.moves.Move.{Move}
 use Rattle.model.specs.Limits.{size_at}
-use Rattle.model.specs.Members.{Among}
+use Rattle.lists.specs.Members.{Among}
 use Rattle.model.specs.Records.{ModelRecord, row_of_model}
 use Rattle.model.specs.Rows.{at}
 use Rattle.detectors.specs.Closure.{relaxed_dead}

@@ -5,7 +5,7 @@ ghost use Rattle.detectors.specs.Choosing.{kind_of};
 use refusal::Refusal;
 
 /// The kinds of the detectors that ship.
-#[derive(Clone, Copy, PartialEq, Eq)]
+#[derive(Clone, Copy, Debug, PartialEq, Eq)]
 pub enum Kind {
     Bare,
     Relaxed,

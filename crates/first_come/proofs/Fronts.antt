@@ -4,27 +4,9 @@ use Rattle.std.specs.List.{slice_get}
 use Rattle.std.proofs.lemmas.Option.{slice_get_cases}
 use Rattle.std.proofs.lemmas.List.{length-append}
 use Rattle.std.proofs.lemmas.Bool.{or_cases, or_left, or_right, false≢true}
+use Rattle.lists.proofs.Fronts.{Front, front_none, front_append}
 use Rattle.first_come.specs.Arrivals.{Kept, arrived, has, keep, keep_all}
 use Rattle.first_come.proofs.Arrivals.{put_cases, arrived_next}
-
-module _ {T : Type 0} where
-  nth_append : (xs ys : List T) (i : ℕ) → i < length xs → slice_get (xs ++ ys) i ≡ slice_get xs i
-  nth_append [] ys i h = absurd (omega arith)
-  nth_append (x ∷ xs) ys zero h = refl
-  nth_append (x ∷ xs) ys (suc i) h = nth_append xs ys i (omega arith)
-
-  pub nth_none : (xs : List T) (i : ℕ) → slice_get xs i ≡ None → length xs ≤ i
-  nth_none xs i h = grind (arith, slice_get_cases xs i)
-
-  -- what the one lists, the other lists at the same place
-  abbrev pub Front : List T → List T → Type 0
-  Front xs ys = (i : ℕ) → i < length xs → (i < length ys) × (slice_get ys i ≡ slice_get xs i)
-
-  front_none : (xs : List T) → Front xs xs
-  front_none xs i h = (h, refl)
-
-  front_append : (xs ys : List T) → Front xs (xs ++ ys)
-  front_append xs ys i h = (omega (arith, h, length-append xs ys), nth_append xs ys i h)
 
 module _ {T : Type 0} (same : T → T → Bool) where
   pub nth_has : ((x : T) → same x x ≡ true) → (xs : List T) (i : ℕ) (x : T) → slice_get xs i ≡ Some x → has same xs x ≡ true

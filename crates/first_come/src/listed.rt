@@ -1,7 +1,7 @@
 //! What became of an item that was listed.
 
 /// The answer of a first-come list to an item. Three outcomes of equal standing: a full list is no error of whoever lists.
-#[derive(Clone, Copy)]
+#[derive(Clone, Copy, Debug)]
 pub enum Listed {
     /// One that is the same is there already, at this place.
     Already(usize),

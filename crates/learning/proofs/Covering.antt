@@ -7,7 +7,7 @@ use Rattle.model.specs.Rows.{contained}
 use Rattle.model.specs.RowLaws.{ContainmentIsTransitive}
 use Rattle.model.proofs.Containment.{contained_transitive}
 use Rattle.rules.specs.Rules.{covers}
-use Rattle.rules.proofs.Members.{covering, covered}
+use Rattle.rules.proofs.Covering.{covering, covered}
 use Rattle.learning.specs.Standings.{CoversAt, Covering}
 
 none_passes : {X : Type 0} (test : X → Bool) (n : ℕ) (xs : List X) → position_from test n xs ≡ None → list_any test xs ≡ false

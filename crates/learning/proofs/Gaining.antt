@@ -8,7 +8,7 @@ use Rattle.std.proofs.lemmas.List.{get_or-set_same, get_or-set_other, get_or-rep
 use Rattle.model.specs.declared.row.Row.{Row}
 use Rattle.model.specs.Rows.{at, open_row, with_entry, keeps, differ, contained, disagree}
 use Rattle.model.specs.SameRows.{row_ext}
-use Rattle.model.proofs.BelowFacts.{any_below_decides}
+use Rattle.lists.proofs.BelowFacts.{any_below_decides}
 use Rattle.model.proofs.Containment.{contained_at, contained_from, keeps_refl}
 use Rattle.learning.specs.Parts.{disagrees_on, lowest_disagreeing, missing, lowest_missing, with_value, with_entry_of, first_part, regained}
 use Rattle.learning.proofs.Lowest.{lowest_found, lowest_none, holding, holding_less}

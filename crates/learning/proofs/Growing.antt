@@ -13,7 +13,7 @@ use Rattle.model.proofs.Containment.{contained_reflexive, contained_transitive}
 use Rattle.model.proofs.Progressions.{smaller_applicable, smaller_progression}
 use Rattle.model.proofs.RowFacts.{at_row_of}
 use Rattle.rules.specs.Rules.{covers, stays_in}
-use Rattle.rules.proofs.Members.{covers_both}
+use Rattle.rules.proofs.Covering.{covers_both}
 use Rattle.rules.proofs.RuleLaws.{stays_at, stays_from}
 use Rattle.learning.specs.declared.standing.Standing.{Standing}
 use Rattle.learning.specs.declared.standing.Standing.TheVariants.{Unknown, Stays, Covered, Dead, LeadsOut}

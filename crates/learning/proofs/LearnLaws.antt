@@ -4,12 +4,12 @@ use Rattle.std.specs.List.{list_all}
 use Rattle.std.specs.Option.{option_map_or}
 use Rattle.model.specs.declared.row.Row.{Row}
 use Rattle.model.specs.RowLaws.{ContainmentIsTransitive}
-use Rattle.model.specs.Members.{Among}
+use Rattle.lists.specs.Members.{Among}
 use Rattle.model.specs.Records.{ModelRecord, row_of_model}
-use Rattle.model.proofs.Members.{all_among}
+use Rattle.lists.proofs.Members.{all_among, among_left, among_right, among_cases, all_from}
 use Rattle.model.proofs.Containment.{contained_transitive}
 use Rattle.rules.specs.Rules.{covers, keeps_rule_1, keeps_rule_2}
-use Rattle.rules.proofs.Members.{among_left, among_right, among_cases, all_from, covering, covered}
+use Rattle.rules.proofs.Covering.{covering, covered}
 use Rattle.rules.proofs.RuleLaws.{rule_2_where_covered, rules_at, rules_from, rules_told, rules_hold}
 use Rattle.learning.specs.Learns.{first_parts, keeps_with, regain_once, most_regained, regain, learned}
 use Rattle.learning.specs.Laws.{PartsOf, LearnedPartsKeepTheRules, NoneIsLeftToRegain}

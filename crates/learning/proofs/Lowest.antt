@@ -3,7 +3,7 @@ use Rattle.std.proofs.Common.{◌≡◌, ℕ, ◌+◌, ◌<◌, ◌≤◌, zero,
 use Rattle.std.specs.List.{filter, find, range_with_len}
 use Rattle.std.proofs.lemmas.Bool.{both_ways, cases_eq, cond_both}
 use Rattle.std.proofs.lemmas.List.FromFn.{length-range_with_len}
-use Rattle.rules.proofs.Members.{length_filtered}
+use Rattle.lists.proofs.Members.{length_filtered}
 use Rattle.learning.specs.Parts.{lowest}
 
 module _ (test : ℕ → Bool) where

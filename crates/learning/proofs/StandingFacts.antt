@@ -8,7 +8,7 @@ use Rattle.model.specs.declared.moves.Move.{Move}
 use Rattle.model.specs.Moves.{applicable, progression}
 use Rattle.model.specs.Records.{ModelRecord}
 use Rattle.rules.specs.Rules.{covers, stays_in, keeps_rule_2}
-use Rattle.rules.proofs.Members.{covers_both}
+use Rattle.rules.proofs.Covering.{covers_both}
 use Rattle.rules.proofs.RuleLaws.{stays_from}
 use Rattle.learning.specs.Learns.{keeps_with}
 use Rattle.learning.specs.declared.standing.Standing.{Standing}

@@ -5,7 +5,7 @@ use Rattle.std.specs.List.{list_all}
 use Rattle.std.proofs.lemmas.Bool.{and_parts, and_from, both_ways}
 use Rattle.model.specs.declared.row.Row.{Row}
 use Rattle.model.specs.Rows.{contained}
-use Rattle.model.specs.Members.{Among}
+use Rattle.lists.specs.Members.{Among}
 use Rattle.model.specs.Records.{ModelRecord, row_of_model}
 use Rattle.model.proofs.Progressions.{contained_fits}
 use Rattle.rules.specs.Rules.{keeps_rule_1}

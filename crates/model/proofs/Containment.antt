@@ -1,14 +1,14 @@
 -- Containment is an order, and rows with the same entries are equal.
-use Rattle.std.proofs.Common.{◌≡◌, ℕ, ◌<◌, Bool, true, eqb, Some, None, Decides, Option, refl, ap, arith}
-use Rattle.std.proofs.lemmas.Bool.{eq-eqb, eqb-true}
+use Rattle.std.proofs.Common.{◌≡◌, ℕ, ◌<◌, Bool, true, eqb, Some, None, Decides, Option, refl, ap, arith, false}
+use Rattle.std.proofs.lemmas.Bool.{eq-eqb, eqb-true, false≢true, both_ways}
 use Rattle.std.proofs.lemmas.Bool.Decides.{Decides-like, nat_tests, same_from_decides}
 use Rattle.std.proofs.lemmas.Slice.Eq.{slice_eq-Decides}
 use Rattle.std.specs.Cmp.Lexicographic.{pointwise}
 use Rattle.std.specs.Option.{option_eq}
 use Rattle.model.specs.declared.row.Row.{Row}
-use Rattle.model.specs.Rows.{at, keeps, contained, same_row}
+use Rattle.model.specs.Rows.{at, keeps, contained, same_row, differ, disagree}
 use Rattle.model.specs.RowLaws.{ContainmentIsReflexive, ContainmentIsTransitive, ContainmentIsAntisymmetric}
-use Rattle.model.proofs.BelowFacts.{all_below_decides}
+use Rattle.lists.proofs.BelowFacts.{all_below_decides, any_below_decides}
 use Rattle.model.specs.SameRows.{same_entries, row_ext, same_entry_decides, same_row_decides}
 
 -- what containment says, entry by entry
@@ -57,3 +57,16 @@ keeps_antisym (Some v) (Some w) p q = ap (λ n. Some n) (eqb-true v w q)
 pub contained_antisymmetric : ContainmentIsAntisymmetric
 unfolding ContainmentIsAntisymmetric
 contained_antisymmetric r t p q = row_ext r t (λ i l. keeps_antisym (at r i) (at t i) (contained_at r t p i l) (contained_at t r q i l))
+
+-- entries that a third row has both do not differ
+agree_in : (a b e : Option ℕ) → keeps a e ≡ true → keeps b e ≡ true → differ a b ≡ false
+agree_in None b e p q = refl
+agree_in (Some v) None e p q = refl
+agree_in (Some v) (Some w) None p q = absurd (false≢true p)
+agree_in (Some v) (Some w) (Some x) p q = grind (arith, nat_tests)
+
+-- no row contains two that disagree
+pub contains_no_two : (r g t : Row) → disagree r g ≡ true → contained r t ≡ true → contained g t ≡ true → ⊥
+contains_no_two r g t apart within goal =
+    let found = (any_below_decides (λ i. differ (at r i) (at g i)) 32).0 apart in
+    both_ways _ (agree_in (at r found.0) (at g found.0) (at t found.0) (contained_at r t within found.0 found.1) (contained_at g t goal found.0 found.1)) found.2

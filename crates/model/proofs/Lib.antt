@@ -1,6 +1,3 @@
-pub mod BelowFacts
-pub mod Chains
-pub mod Members
 pub mod RowFacts
 pub mod Containment
 pub mod Progressions

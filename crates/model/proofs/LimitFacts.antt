@@ -15,7 +15,7 @@ use Rattle.model.specs.Tables.{begun, begin_answer, with_begun, last_begun, with
 use Rattle.model.specs.declared.in_hand.Part.{Part}
 use Rattle.model.specs.declared.in_hand.Part.TheVariants.{Conditions, Effects}
 use Rattle.model.specs.Writing.{entry_answer, entered, move_entered}
-use Rattle.model.proofs.BelowFacts.{all_below_decides}
+use Rattle.lists.proofs.BelowFacts.{all_below_decides}
 
 module _ (vs : List Variable) where
   pub open_fits : row_fits vs open_row ≡ true

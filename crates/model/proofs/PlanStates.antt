@@ -4,7 +4,7 @@ use Rattle.model.specs.Limits.{move_fits}
 use Rattle.model.specs.Records.{state_of_model}
 use Rattle.model.specs.Moves.{progression}
 use Rattle.model.specs.MoveLaws.{StatesLeadToStates}
-use Rattle.model.proofs.Members.{nth_among, all_among}
+use Rattle.lists.proofs.Members.{nth_among, all_among}
 use Rattle.model.proofs.Progressions.{state_progresses}
 
 pub states_lead_to_states : StatesLeadToStates

@@ -9,12 +9,14 @@ use Rattle.model.specs.declared.variable.Variable.{Variable}
 use Rattle.model.specs.Rows.{at, keeps, differ, contained, disagree}
 use Rattle.model.specs.Moves.{or_else, next_entry, applicable, progression, successor}
 use Rattle.model.specs.Limits.{size_at, entry_fits, row_fits, move_fits, complete, no_variable}
-use Rattle.model.specs.Records.{ModelRecord, state_of_model}
+use Rattle.model.specs.Records.{ModelRecord, state_of_model, Sealed, row_of_model}
 use Rattle.model.specs.MoveLaws.{SmallerRowKeepsMovesApplicable, SmallerRowHasSmallerProgression, ProgressionOfAStateIsItsSuccessor}
-use Rattle.model.proofs.BelowFacts.{all_below_decides, any_below_decides, any_below_fails}
+use Rattle.lists.proofs.BelowFacts.{all_below_decides, any_below_decides, any_below_fails}
 use Rattle.model.specs.SameRows.{row_ext}
 use Rattle.model.proofs.RowFacts.{at_row_of, open_past}
 use Rattle.model.proofs.Containment.{contained_at, contained_from, keeps_refl}
+use Rattle.lists.specs.Members.{Among}
+use Rattle.lists.proofs.Members.{all_among}
 
 -- the conditions c, the entry a of the smaller row and the entry b of the larger one
 keeps_differ : (c a b : Option ℕ) → keeps a b ≡ true → differ c b ≡ false → differ c a ≡ false
@@ -52,9 +54,9 @@ smaller_progression m r t h a =
     (keeps_next (at m.effects i) (at r i) (at t i) (at m.conditions i) (contained_at r t h i l) (differ_nowhere m t a i l)))
 
 -- a value fits no variable of size 0
-entry_fits_none : (e : Option ℕ) → entry_fits 0 e ≡ true → e ≡ None
-entry_fits_none None h = refl
-entry_fits_none (Some v) h = grind (arith, nat_tests)
+pub entry_fits_none : (n : ℕ) (e : Option ℕ) → n ≡ 0 → entry_fits n e ≡ true → e ≡ None
+entry_fits_none n None z h = refl
+entry_fits_none n (Some v) z h = grind (arith, nat_tests)
 
 keeps_fits : (n : ℕ) (a b : Option ℕ) → keeps a b ≡ true → entry_fits n b ≡ true → entry_fits n a ≡ true
 keeps_fits n None b k h = refl
@@ -74,7 +76,7 @@ module _ (vs : List Variable) where
   -- a row gives nothing past the variables
   open_past_variables : (row : Row) → row_fits vs row ≡ true → (i : ℕ) → i < 32 → length vs ≤ i → at row i ≡ None
   open_past_variables row fits i l past =
-      entry_fits_none (at row i) (ap (λ v. entry_fits v.size (at row i)) (sym (get_or_past vs i no_variable past)) ∙ fits_at row fits i l)
+      entry_fits_none (size_at vs i) (at row i) (ap (λ (v : Variable). v.size) (get_or_past vs i no_variable past)) (fits_at row fits i l)
 
   given_at : (row : Row) → complete vs row ≡ true → (i : ℕ) → i < length vs → is_some (at row i) ≡ true
   given_at row whole = (all_below_decides (λ i. is_some (at row i)) (length vs)).0 whole
@@ -96,6 +98,19 @@ or_else_fits : (n : ℕ) (e t : Option ℕ) → entry_fits n e ≡ true → entr
 or_else_fits n None t h k = k
 or_else_fits n (Some v) t h k = h
 
+-- a move between rows over the variables takes such rows to such rows
+progression_fits : (vs : List Variable) (m : Move) (r : Row) → row_fits vs m.conditions ≡ true → row_fits vs m.effects ≡ true → row_fits vs r ≡ true → row_fits vs (progression m r) ≡ true
+progression_fits vs m r conditions effects fits =
+    (all_below_decides (λ i. entry_fits (size_at vs i) (at (progression m r) i)) 32).1 (λ i l.
+    ap (entry_fits (size_at vs i)) (at_row_of (next_entry m r) i l)
+    ∙ or_else_fits (size_at vs i) (at m.effects i) (or_else (at r i) (at m.conditions i)) (fits_at vs m.effects effects i l)
+    (or_else_fits (size_at vs i) (at r i) (at m.conditions i) (fits_at vs r fits i l) (fits_at vs m.conditions conditions i l)))
+
+pub row_progresses : (d : ModelRecord) → Sealed d → (m : Move) → Among d.moves m → (r : Row) → row_of_model d r ≡ true → row_of_model d (progression m r) ≡ true
+row_progresses d sealed m among r fits =
+    let parts = and_parts (row_fits d.variables m.conditions) (row_fits d.variables m.effects) (all_among (move_fits d.variables) d.moves m sealed.move_values_below_sizes among) in
+    progression_fits d.variables m r parts.0 parts.1 fits
+
 module _ (vs : List Variable) (m : Move) (s : Row) (conditions : row_fits vs m.conditions ≡ true) (effects : row_fits vs m.effects ≡ true) (fits : row_fits vs s ≡ true) (whole : complete vs s ≡ true) where
   next_is : (i : ℕ) → i < 32 → at (progression m s) i ≡ or_else (at m.effects i) (at s i)
   next_is i l = at_row_of (next_entry m s) i l ∙ ⊎_elim
@@ -105,11 +120,6 @@ module _ (vs : List Variable) (m : Move) (s : Row) (conditions : row_fits vs m.c
 
   progression_is_successor : progression m s ≡ successor m s
   progression_is_successor = row_ext (progression m s) (successor m s) (λ i l. next_is i l ∙ sym (at_row_of (λ k. or_else (at m.effects k) (at s k)) i l))
-
-  progression_fits : row_fits vs (progression m s) ≡ true
-  progression_fits =
-      (all_below_decides (λ i. entry_fits (size_at vs i) (at (progression m s) i)) 32).1
-      (λ i l. ap (entry_fits (size_at vs i)) (next_is i l) ∙ or_else_fits (size_at vs i) (at m.effects i) (at s i) (fits_at vs m.effects effects i l) (fits_at vs s fits i l))
 
   -- a state gives no variable past the 32nd, so there is none
   within_32 : (i : ℕ) → is_some (at s i) ≡ true → i < 32
@@ -125,7 +135,7 @@ state_progresses d m s fits state =
     let vs = d.variables in
     let parts = and_parts (row_fits vs m.conditions) (row_fits vs m.effects) fits in
     let of_state = and_parts (row_fits vs s) (complete vs s) state in
-    and_from _ _ (progression_fits vs m s parts.0 parts.1 of_state.0 of_state.1) (progression_complete vs m s parts.0 parts.1 of_state.0 of_state.1)
+    and_from _ _ (progression_fits vs m s parts.0 parts.1 of_state.0) (progression_complete vs m s parts.0 parts.1 of_state.0 of_state.1)
 
 pub state_successor : ProgressionOfAStateIsItsSuccessor
 unfolding ProgressionOfAStateIsItsSuccessor SmallerRowHasSmallerProgression

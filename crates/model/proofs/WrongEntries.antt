@@ -1,5 +1,5 @@
 -- A row without wrong entries is one of the model's.
-use Rattle.std.proofs.Common.{◌≡◌, ℕ, zero, suc, ◌+◌, ◌-◌, ◌<◌, ◌≤◌, Bool, true, false, cond, is_ok, List, length, Some, None, Option, Ok, Err, refl, ap, sym, ◌∙◌, nat_lt, arith, subst, ⊎_elim}
+use Rattle.std.proofs.Common.{◌≡◌, ℕ, zero, suc, ◌+◌, ◌-◌, ◌<◌, ◌≤◌, Bool, true, false, cond, is_ok, List, length, Some, None, Option, Ok, Err, refl, ap, sym, ◌∙◌, nat_lt, arith, subst, ⊎_elim, Result}
 use Rattle.std.specs.Prelude.{◌&&◌}
 use Rattle.std.proofs.Math.Nat.{eq-or-lt_of_le}
 use Rattle.std.proofs.lemmas.List.{get_or_past}
@@ -13,7 +13,9 @@ use Rattle.model.specs.Limits.{no_variable, size_at, row_fits, entry_fits}
 use Rattle.model.specs.Rows.{at}
 use Rattle.model.specs.Tables.{Answer}
 use Rattle.model.specs.WrongEntries.{value_checked, first_refusal, row_checked, RowsWithoutWrongEntriesFit}
-use Rattle.model.proofs.BelowFacts.{all_below_decides}
+use Rattle.lists.proofs.BelowFacts.{all_below_decides}
+use Rattle.model.specs.Records.{ModelRecord, row_of_model}
+use Rattle.model.specs.declared.row.Row.{Row}
 
 module _ (f : ℕ → Answer) (i : ℕ) where
   -- one number more
@@ -58,7 +60,8 @@ same_test vs i (Some v) =
     value_tests (nat_lt i (length vs)) (nat_lt v (size_at vs i))
     ∙ fits_where_there_is_one (nat_lt i (length vs)) (nat_lt v (size_at vs i)) (λ past. below_none v (size_at vs i) (no_size vs i past))
 
-ok_both : (a b : Answer) → is_ok (result_and a b) ≡ (is_ok a && is_ok b)
+-- two checks, one behind the other
+pub ok_both : {A B E : Type 0} (a : Result A E) (b : Result B E) → is_ok (result_and a b) ≡ (is_ok a && is_ok b)
 ok_both (Ok x) b = refl
 ok_both (Err e) b = refl
 
@@ -88,3 +91,8 @@ checked_rows_fit vs row =
       (λ h. ok_from f 0 32 (λ k l. same_test vs k (at row k) ∙ fits.0 h k l)),
     )
     ((λ e. e), λ e. e)
+
+-- a row of which no entry is refused is one of the model
+pub row_passes : (d : ModelRecord) (row : Row) → is_ok (row_checked d.variables row) ≡ true → row_of_model d row ≡ true
+unfolding RowsWithoutWrongEntriesFit
+row_passes d row h = sym (checked_rows_fit d.variables row) ∙ h

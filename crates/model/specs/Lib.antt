@@ -1,5 +1,3 @@
-pub mod Below
-pub mod Members
 pub mod Rows
 pub mod RowLaws
 pub mod SameRows

@@ -4,7 +4,7 @@ use Rattle.std.specs.List.{list_all}
 use Rattle.model.specs.declared.row.Row.{Row}
 use Rattle.model.specs.declared.moves.Move.{Move}
 use Rattle.model.specs.declared.variable.Variable.{Variable}
-use Rattle.model.specs.Below.{all_below}
+use Rattle.lists.specs.Below.{all_below}
 use Rattle.model.specs.Rows.{at}
 
 abbrev pub no_variable : Variable

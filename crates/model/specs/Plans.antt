@@ -16,11 +16,7 @@ Leads d s (n ∷ ns) t = (m : Move) × (slice_get d.moves n ≡ Some m) × (appl
 abbrev pub Plan : ModelRecord → Row → List ℕ → Type 0
 Plan d s ns = (t : Row) × Leads d s ns t × (contained d.goal t ≡ true)
 
--- the length of a plan is the number of its moves
-abbrev pub plan_length : List ℕ → ℕ
-plan_length ns = length ns
-
--- a plan, and no plan is shorter
+-- a plan, and no plan has fewer moves
 pub record ShortestPlan (d : ModelRecord) (s : Row) (ns : List ℕ) : Type 0 where
   pub is_a_plan : Plan d s ns
   pub none_is_shorter : (others : List ℕ) → Plan d s others → length ns ≤ length others

@@ -5,7 +5,7 @@ use Rattle.std.proofs.lemmas.List.{length-replicate}
 use Rattle.std.specs.List.{range_with_len}
 use Rattle.std.proofs.lemmas.List.FromFn.{length-map-range_with_len}
 use Rattle.model.specs.declared.row.Row.{Row}
-use Rattle.model.specs.Below.{all_below, any_below}
+use Rattle.lists.specs.Below.{all_below, any_below}
 
 -- the entry of the variable i; open where there is no such variable
 abbrev pub at : Row → ℕ → Option ℕ

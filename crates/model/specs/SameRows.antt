@@ -8,7 +8,7 @@ use Rattle.std.proofs.lemmas.Bool.Decides.{Decides-below_and}
 use Rattle.std.proofs.lemmas.List.{ext_get_or}
 use Rattle.std.specs.Cmp.{IsPartialEquivalence, partial_equiv_from_equiv, decided}
 use Rattle.model.specs.declared.row.Row.{Row}
-use Rattle.model.specs.Below.{all_below}
+use Rattle.lists.specs.Below.{all_below}
 use Rattle.model.specs.Rows.{at, same_entry, same_row}
 
 -- the invariant of a row adds nothing to what it is

@@ -12,14 +12,14 @@ pub mod writing_ends;
 pub mod writing_moves;
 
 /// One of the two rows of a move.
-#[derive(Clone, Copy)]
+#[derive(Clone, Copy, Debug)]
 pub enum Part {
     Conditions,
     Effects,
 }
 
 /// One of the two ends of a plan.
-#[derive(Clone, Copy)]
+#[derive(Clone, Copy, Debug)]
 pub enum End {
     Start,
     Goal,

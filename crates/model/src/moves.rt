@@ -8,7 +8,7 @@ use crate::row::Row;
 use std::array;
 
 /// A move: it may be made where the row does not disagree with its conditions, and then its effects hold.
-#[derive(Clone, Copy)]
+#[derive(Clone, Copy, Debug)]
 pub struct Move {
     pub name: [u8; 8],
     pub conditions: Row,

@@ -9,28 +9,19 @@ use Rattle.model.specs.MoveLaws.{SmallerRowKeepsMovesApplicable, SmallerRowHasSm
 use Rattle.model.specs.Rows.{at, keeps, differ, contained, disagree}
 use Rattle.model.specs.Moves.{applicable, progression}
 use Rattle.model.specs.Plans.{Leads}
-use Rattle.model.specs.Members.{Among}
+use Rattle.lists.specs.Members.{Among}
 use Rattle.model.specs.Records.{ModelRecord, row_of_model}
-use Rattle.model.proofs.BelowFacts.{any_below_decides}
-use Rattle.model.proofs.Containment.{contained_at, contained_transitive}
-use Rattle.model.proofs.Members.{nth_among, all_among}
+use Rattle.lists.proofs.BelowFacts.{any_below_decides}
+use Rattle.model.proofs.Containment.{contained_at, contained_transitive, contains_no_two}
+use Rattle.lists.proofs.Members.{nth_among, all_among}
 use Rattle.model.proofs.Progressions.{smaller_applicable, smaller_progression}
 use Rattle.detector.specs.Laws.{Lawful}
 use Rattle.one_row.specs.Standstill.{stays, all_stay, stands_still, one_row_dead}
 
--- entries that a third row has both do not differ
-agree_in : (a b e : Option ℕ) → keeps a e ≡ true → keeps b e ≡ true → differ a b ≡ false
-agree_in None b e p q = λ i. false
-agree_in (Some v) None e p q = λ i. false
-agree_in (Some v) (Some w) None p q = absurd (false≢true p)
-agree_in (Some v) (Some w) (Some x) p q = grind (arith, nat_tests)
-
 module _ (d : ModelRecord) (r : Row) (apart : disagree r d.goal ≡ true) (stay : all_stay d.moves r ≡ true) where
   -- no state that contains the row contains the goal
   no_goal : (t : Row) → contained r t ≡ true → contained d.goal t ≡ true → ⊥
-  no_goal t within goal =
-      let found = (any_below_decides (λ i. differ (at r i) (at d.goal i)) 32).0 apart in
-      both_ways _ (agree_in (at r found.0) (at d.goal found.0) (at t found.0) (contained_at r t within found.0 found.1) (contained_at d.goal t goal found.0 found.1)) found.2
+  no_goal t within goal = contains_no_two r d.goal t apart within goal
 
   -- a move that is applicable to a state that contains the row leads to one that does
   kept_by : (m : Move) → Among d.moves m → (s : Row) → contained r s ≡ true → applicable m s ≡ true → contained r (progression m s) ≡ true

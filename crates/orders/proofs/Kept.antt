@@ -9,7 +9,9 @@ use Rattle.model.specs.Rows.{same_row}
 use Rattle.model.specs.Records.{ModelRecord, Sealed, row_of_model}
 use Rattle.detector.specs.Laws.{Lawful}
 use Rattle.rules.specs.Rules.{covers, keeps_rules}
-use Rattle.rules.proofs.Members.{Within, among_left, covered_by_more}
+use Rattle.lists.specs.Members.{Within}
+use Rattle.lists.proofs.Members.{among_left}
+use Rattle.rules.proofs.Covering.{covered_by_more}
 use Rattle.walk.specs.declared.walked.Walked.{Walked}
 use Rattle.walk.specs.Walks.{Outcome, planned, exhausted, no_place}
 use Rattle.book.specs.Adding.{fresh, overfull, room_checked}

@@ -5,10 +5,10 @@ use Rattle.refusal.specs.declared.Refusal.{Refusal}
 use Rattle.model.specs.declared.row.Row.{Row}
 use Rattle.model.specs.Rows.{contained}
 use Rattle.model.specs.Limits.{complete}
-use Rattle.model.specs.Members.{Among}
+use Rattle.lists.specs.Members.{Among}
 use Rattle.model.specs.Records.{ModelRecord, row_of_model, state_of_model}
 use Rattle.rules.specs.Rules.{covers}
-use Rattle.rules.proofs.Members.{covered}
+use Rattle.rules.proofs.Covering.{covered}
 use Rattle.learning.specs.Learns.{learned}
 use Rattle.learning.specs.Laws.{PartsOf}
 use Rattle.learning.proofs.LearnLaws.{learned_parts}
@@ -25,20 +25,13 @@ use Rattle.orders.specs.Runs.{told_by, probe_told}
 use Rattle.orders.specs.WholeRuns.{says_dead}
 use Rattle.orders.proofs.Kept.{called_grows, probe_grows}
 use Rattle.book.proofs.ProbeCases.{probe_cases}
+use Rattle.learning.proofs.StatesAndParts.{part_of_state}
 
 module _ (d : ModelRecord) (gone : Row → Bool) (rows : List Row) where
-  -- with a state that is listed, its part is among the parts
-  part_of_listed : (states parts : List Row) (s : Row) → PartsOf states parts → Among states s → (p : Row) × Among parts p × (contained p s ≡ true)
-  part_of_listed [] parts s h a = absurd a
-  part_of_listed (t ∷ states) [] s h a = absurd h
-  part_of_listed (t ∷ states) (p ∷ parts) s h a = ⊎_elim
-      (λ (same : t ≡ s). (p, inl refl, subst (λ (u : Row). contained p u ≡ true) same h.0))
-      (λ later. let part = part_of_listed states parts s h.1 later in (part.0, inr part.1, part.2)) a
-
   -- rows with the parts cover it
   covered_afterwards : (states parts : List Row) (s : Row) → PartsOf states parts → Among states s → covers (rows ++ fresh rows parts) s ≡ true
   covered_afterwards states parts s h a =
-      let part = part_of_listed states parts s h a in
+      let part = part_of_state states parts s h a in
       covered (rows ++ fresh rows parts) s part.0 (fresh_held rows parts part.0 part.1) part.2
 
   module _ (r : Row) where

@@ -11,7 +11,7 @@ use Rattle.model.specs.declared.row.Row.{Row}
 use Rattle.model.specs.Rows.{same_row}
 use Rattle.model.specs.SameRows.{same_row_decides}
 use Rattle.model.specs.Records.{ModelRecord, Sealed, row_of_model}
-use Rattle.model.proofs.Members.{all_among}
+use Rattle.lists.proofs.Members.{all_among}
 use Rattle.detector.specs.Laws.{EqualMeaning}
 use Rattle.rules.proofs.RuleLaws.{rules_told}
 use Rattle.hand.specs.ReadBack.{WrittenRowsReadBack}

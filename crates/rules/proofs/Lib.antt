@@ -1,3 +1,2 @@
-pub mod Members
-pub mod Searches
+pub mod Covering
 pub mod RuleLaws

@@ -6,15 +6,15 @@ use Rattle.model.specs.declared.row.Row.{Row}
 use Rattle.model.specs.declared.moves.Move.{Move}
 use Rattle.model.specs.Rows.{at}
 use Rattle.model.specs.Moves.{or_else, next_entry, applicable, progression}
-use Rattle.model.specs.Members.{Among}
+use Rattle.lists.specs.Members.{Among, Within}
 use Rattle.model.specs.Limits.{size_at, entry_fits, row_fits, move_fits}
 use Rattle.model.specs.Records.{ModelRecord, Sealed, row_of_model}
-use Rattle.model.proofs.BelowFacts.{all_below_decides}
-use Rattle.model.proofs.Members.{all_among}
+use Rattle.lists.proofs.BelowFacts.{all_below_decides}
+use Rattle.lists.proofs.Members.{all_among, all_from}
 use Rattle.model.proofs.Progressions.{fits_at}
 use Rattle.model.proofs.RowFacts.{at_row_of}
 use Rattle.rules.specs.Rules.{covers, keeps_rule_1, stays_in, keeps_rule_2, keeps_rules, KeepsBothRules}
-use Rattle.rules.proofs.Members.{Within, all_from, covering, covered, covered_by_more, covers_both}
+use Rattle.rules.proofs.Covering.{covering, covered, covered_by_more, covers_both}
 
 -- both lists of a set may be asked before the detector
 pub sets_first : (xs ys : List Row) (t : Row) (gone : Bool) → (gone || covers (xs ++ ys) t) ≡ (covers xs t || (covers ys t || gone))
@@ -93,17 +93,3 @@ module _ (d : ModelRecord) (dead : Row → Bool) (set : List Row) where
 pub rules_by_members : (d : ModelRecord) (dead : Row → Bool) (set other : List Row) → Within set other → Within other set → keeps_rules d dead set ≡ true → keeps_rules d dead other ≡ true
 rules_by_members d dead set other more less h =
     rules_from d dead other (λ r a. let own = rules_at d dead set h r (less r a) in (own.0, rule_2_in_more d dead set r other more own.1))
-
--- the entries of a progression come from its move and from the row
-or_else_fits : (n : ℕ) (e t : Option ℕ) → entry_fits n e ≡ true → entry_fits n t ≡ true → entry_fits n (or_else e t) ≡ true
-or_else_fits n None t h k = k
-or_else_fits n (Some v) t h k = h
-
-pub progression_fits : (d : ModelRecord) → Sealed d → (m : Move) → Among d.moves m → (r : Row) → row_of_model d r ≡ true → row_of_model d (progression m r) ≡ true
-progression_fits d sealed m among r fits =
-    let vs = d.variables in
-    let rows = and_parts (row_fits vs m.conditions) (row_fits vs m.effects) (all_among (move_fits vs) d.moves m sealed.move_values_below_sizes among) in
-    (all_below_decides (λ i. entry_fits (size_at vs i) (at (progression m r) i)) 32).1 (λ i l.
-    ap (entry_fits (size_at vs i)) (at_row_of (next_entry m r) i l)
-    ∙ or_else_fits (size_at vs i) (at m.effects i) (or_else (at r i) (at m.conditions i)) (fits_at vs m.effects rows.1 i l)
-    (or_else_fits (size_at vs i) (at r i) (at m.conditions i) (fits_at vs r fits i l) (fits_at vs m.conditions rows.0 i l)))

@@ -5,7 +5,7 @@ use Rattle.model.specs.declared.row.Row.{Row}
 use Rattle.model.specs.declared.moves.Move.{Move}
 use Rattle.model.specs.Rows.{contained, disagree}
 use Rattle.model.specs.Moves.{applicable, progression}
-use Rattle.model.specs.Members.{Among}
+use Rattle.lists.specs.Members.{Among}
 use Rattle.model.specs.Records.{ModelRecord}
 
 -- one row of the set is contained in the row t

@@ -1,4 +1,4 @@
-//! The two rules that bind a set of rows which are known to be dead.
+//! The two rules that bind a set of rows. Over a lawful detector rows that keep both are dead.
 #![tactic(auto)]
 
 pub mod set;

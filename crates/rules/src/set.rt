@@ -1,7 +1,7 @@
 //! The two rules that bind a set of rows.
 ghost use Rattle.std.specs.Prelude.{◌≡◌, ◌++◌};
 ghost use Rattle.rules.specs.Rules.{covers, keeps_rule_1, keeps_rule_2, stays_in};
-ghost use Rattle.rules.specs.Searches.{first_failing, first_failing_pair};
+ghost use Rattle.lists.specs.Searches.{first_failing, first_failing_pair};
 
 use detector::Detector;
 use model::moves::Move;

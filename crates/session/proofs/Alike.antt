@@ -11,7 +11,8 @@ use Rattle.model.specs.Records.{ModelRecord}
 use Rattle.model.specs.Rows.{open_row}
 use Rattle.model.specs.Tables.{Answer}
 use Rattle.walk.specs.declared.walked.Walked.{Walked}
-use Rattle.walk.specs.Answers.{over, outcome_plan, work_list_after, plan_after}
+use Rattle.lists.specs.Fronts.{over}
+use Rattle.walk.specs.Answers.{outcome_plan, work_list_after, plan_after}
 use Rattle.walk.specs.Walks.{Outcome, planned, exhausted, no_place, WholeWalk, walk_from, first}
 use Rattle.sheet.specs.Reading.{Told}
 use Rattle.hand.specs.Gathering.{without_row}
@@ -24,14 +25,11 @@ use Rattle.orders.specs.Orders as orders
 use Rattle.orders.specs.Orders.{Brought, probe, write, wrote}
 use Rattle.orders.specs.Runs.{told_by, probe_told, answer, rows_after, left_of}
 use Rattle.session.specs.Orders.{State, state, Lent, lent, fresh_lent, Came, answered, bytes_told, Turn, order_turn, other_turn, command_turn}
+use Rattle.lists.proofs.Fronts.{front_over}
 
 -- an answer or a refusal, with what was lent
 abbrev came_with : {X : Type 0} → (X → orders.AnswerTold) → Result X Refusal → Lent → Came
 came_with tell r l = answered (told_by tell r) (bytes_told (told_by tell r) l)
-
--- items that are laid over a buffer lie at its front
-in_front : {X : Type 0} (items buffer : List X) → take (length items) (over items buffer) ≡ items
-in_front items buffer = take-append_seam items (drop (length items) buffer)
 
 module _ (d : ModelRecord) (gone : Row → Bool) (s : State) where
   -- the book as it is written, if it has room
@@ -40,7 +38,7 @@ module _ (d : ModelRecord) (gone : Row → Bool) (s : State) where
     bytes = rows_written s.rows
 
     book_alike : (room : Bool) → came_with wrote (cond room (Ok (length bytes)) (Err BufferTooShort)) (lent [] [] (cond room (over bytes b) b)) ≡ came_with wrote (cond room (Ok (length bytes)) (Err BufferTooShort)) (lent [] [] (cond room (over bytes c) c))
-    book_alike true = ap (answered (wrote (length bytes))) (in_front bytes b ∙ sym (in_front bytes c))
+    book_alike true = ap (answered (wrote (length bytes))) (front_over bytes b (length bytes) refl ∙ sym (front_over bytes c (length bytes) refl))
     book_alike false = refl
 
     pub write_alike : length b ≡ length c → order_turn d gone s (write b) ≡ order_turn d gone s (write c)
@@ -53,7 +51,7 @@ module _ (d : ModelRecord) (gone : Row → Bool) (s : State) where
     -- what comes of a walk that has listed these states
     module _ (listed v w : List Walked) where
       plan_alike : (ns : List ℕ) (room : Bool) → came_with probe_told (cond room (Ok (probes.has_plan (length listed) (length ns))) (Err BufferTooShort)) (lent v (cond room (over ns b) b) []) ≡ came_with probe_told (cond room (Ok (probes.has_plan (length listed) (length ns))) (Err BufferTooShort)) (lent w (cond room (over ns c) c) [])
-      plan_alike ns true = ap (answered (orders.has_plan (length listed) (length ns))) (in_front ns b ∙ sym (in_front ns c))
+      plan_alike ns true = ap (answered (orders.has_plan (length listed) (length ns))) (front_over ns b (length ns) refl ∙ sym (front_over ns c (length ns) refl))
       plan_alike ns false = refl
 
       dead_alike : (rows entries : ℕ) (full : Bool) → came_with probe_told (cond full (Err BookFull) (Ok (called_dead (length listed) rows entries))) (lent v b []) ≡ came_with probe_told (cond full (Err BookFull) (Ok (called_dead (length listed) rows entries))) (lent w c [])

@@ -4,7 +4,7 @@ use Rattle.model.specs.declared.row.Row.{Row}
 use Rattle.model.specs.Records.{ModelRecord}
 use Rattle.rules.specs.Rules.{keeps_rule_2}
 use Rattle.settling.specs.Rounds.{after_round, marks_nothing, after_rounds, round_count}
-use Rattle.rules.proofs.Members.{filter_all, filter_drops}
+use Rattle.lists.proofs.Members.{filter_all, filter_drops}
 
 -- at most so many rounds are made, and these rows are unmarked at first
 module _ (d : ModelRecord) (calls : Row → Bool) (most : ℕ) (first : List Row) where

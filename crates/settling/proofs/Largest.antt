@@ -3,11 +3,10 @@ use Rattle.std.proofs.Common.{◌≡◌, ℕ, zero, suc, ◌<◌, ◌≤◌, Boo
 use Rattle.std.proofs.lemmas.Bool.{cond_both}
 use Rattle.std.specs.List.{list_all, filter}
 use Rattle.model.specs.declared.row.Row.{Row}
-use Rattle.model.specs.Members.{Among}
+use Rattle.lists.specs.Members.{Among, Within}
 use Rattle.model.specs.Records.{ModelRecord}
-use Rattle.model.proofs.Members.{all_among}
+use Rattle.lists.proofs.Members.{all_among, filtered_from, filtered_among, filtered_twice, length_filtered, filter_drops}
 use Rattle.rules.specs.Rules.{keeps_rule_1, keeps_rule_2, keeps_rules, KeepsBothRules}
-use Rattle.rules.proofs.Members.{Within, filtered_from, filtered_among, filtered_twice, length_filtered, filter_drops}
 use Rattle.rules.proofs.RuleLaws.{rules_at, rules_from, rules_told, rules_hold, rule_2_in_more}
 use Rattle.settling.specs.Laws.{LargestThatKeepsTheRules}
 use Rattle.settling.specs.Rounds.{unmarked_at_start, after_round, marks_nothing, after_rounds, most_rounds, left_of}

@@ -13,7 +13,7 @@ use Rattle.rules.specs.Rules.{keeps_rule_1, keeps_rule_2}
 use Rattle.settling.specs.declared.candidate.Candidate.{Candidate}
 use Rattle.settling.specs.Candidates.{after, at_start, marked_by, row_if_unmarked, unmarked}
 use Rattle.settling.specs.Rounds.{after_round, after_rounds, marks_nothing, round_count, unmarked_at_start}
-use Rattle.rules.proofs.Members.{filter_drops}
+use Rattle.lists.proofs.Members.{filter_drops}
 use Rattle.settling.proofs.Going.{Going, going_start, going_on, going_end}
 
 was_false : (b : Bool) → not b ≡ false → b ≡ true

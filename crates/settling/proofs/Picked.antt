@@ -2,9 +2,8 @@
 use Rattle.std.proofs.Common.{◌≡◌, zero, suc, Bool, true, false, List, [], ◌∷◌, length, map, refl, ap, inl, inr, ⊎_elim, arith}
 use Rattle.std.proofs.lemmas.Bool.{cond_both, false≢true}
 use Rattle.std.specs.List.{filter}
-use Rattle.model.specs.Members.{Among}
+use Rattle.lists.specs.Members.{Among, Within}
 use Rattle.settling.specs.Selections.{picked, WithinPlaces}
-use Rattle.rules.proofs.Members.{Within}
 
 module _ {X : Type 0} where
   pub picked_from : (choice : List Bool) (xs : List X) → Within (picked choice xs) xs

@@ -16,17 +16,15 @@ fn agrees(rt: &HostRuntime, name: &str) -> anyhow::Result<bool> {
 
 fn run(rt: &HostRuntime) -> anyhow::Result<()> {
     let table = fs::read_to_string(rt, "table.txt")?;
-    let mut differing = Vec::new(rt.alloc());
+    let mut differing = 0;
     for name in table.lines() {
         if !agrees(rt, name)? {
-            differing.push(name)?;
+            println!(rt; "{name} differs")?;
+            differing += 1;
         }
     }
-    for name in &differing {
-        println!(rt; "{name} differs")?;
-    }
     let sheets = table.lines().count();
-    println!(rt; "{sheets} sheets, {} differ", differing.len())?;
+    println!(rt; "{sheets} sheets, {differing} differ")?;
     Ok(())
 }
 

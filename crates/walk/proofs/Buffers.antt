@@ -3,7 +3,8 @@ use Rattle.std.proofs.Common.{◌≡◌, ℕ, suc, ◌+◌, ◌-◌, ◌<◌, �
 use Rattle.std.proofs.Math.Seq.{take-append_seam, drop-append-add}
 use Rattle.std.proofs.lemmas.List.{take-append-drop, drop-append-le, drop-drop, length-take, length-take-le, length_push, set_split}
 use Rattle.first_come.specs.Arrivals.{Kept, kept, arrived, with_next}
-use Rattle.walk.specs.Answers.{over}
+use Rattle.lists.specs.Fronts.{over}
+use Rattle.lists.proofs.Fronts.{over_over}
 use Rattle.walk.specs.WorkLists.{filled}
 
 module _ {T : Type 0} where
@@ -25,23 +26,5 @@ module _ {T : Type 0} where
   pub arrived_filled : (k : Kept T) (xs : List T) → arrived (filled k xs) ≡ xs
   arrived_filled k xs = take-append_seam xs (drop (length xs) k.places)
 
-  pub length_over : (xs places : List T) → length xs ≤ length places → length (over xs places) ≡ length places
-  length_over xs places h = omega (arith, length-append xs (drop (length xs) places), length-drop (length xs) places)
-
-  -- a longer list takes the place of a shorter one
-  pub over_over : (xs ys places : List T) → length xs ≤ length ys → over ys (over xs places) ≡ over ys places
-  over_over xs ys places h =
-      let n = length ys - length xs in
-      let e : length ys ≡ length xs + n = omega arith in
-      let rest = drop-append-add xs (drop (length xs) places) n in
-      ap (λ zs. ys ++ zs) (ap (λ i. drop i (over xs places)) e ∙ rest ∙ drop-drop n (length xs) places ∙ ap (λ i. drop i places) (sym e))
-
   pub filled_filled : (k : Kept T) (xs ys : List T) → length xs ≤ length ys → filled (filled k xs) ys ≡ filled k ys
   filled_filled k xs ys h = ap (λ p. kept p (length ys)) (over_over xs ys k.places h)
-
-  -- a list at the front of the first places is at the front of all
-  pub over_front : (xs places : List T) (used : ℕ) → length xs ≤ used → used ≤ length places → over xs (take used places) ++ drop used places ≡ over xs places
-  over_front xs places used h l =
-      let fits : length xs ≤ length (take used places) = omega (arith, length-take used places) in
-      append_assoc xs (drop (length xs) (take used places)) (drop used places)
-      ∙ ap (λ d. xs ++ d) (sym (drop-append-le (length xs) (take used places) (drop used places) fits) ∙ ap (drop (length xs)) (take-append-drop used places))

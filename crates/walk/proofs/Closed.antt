@@ -9,11 +9,11 @@ use Rattle.model.specs.declared.moves.Move.{Move}
 use Rattle.model.specs.declared.variable.Variable.{Variable}
 use Rattle.model.specs.Rows.{at, keeps, differ, contained, disagree}
 use Rattle.model.specs.Limits.{no_variable, size_at, entry_fits, complete}
-use Rattle.model.specs.Members.{Among}
+use Rattle.lists.specs.Members.{Among}
 use Rattle.model.specs.Moves.{applicable, progression}
 use Rattle.model.specs.Plans.{Plan}
 use Rattle.model.specs.Records.{ModelRecord, Sealed, row_of_model, state_of_model}
-use Rattle.model.proofs.BelowFacts.{all_below_decides, any_below_decides}
+use Rattle.lists.proofs.BelowFacts.{all_below_decides, any_below_decides}
 use Rattle.model.proofs.Containment.{contained_from}
 use Rattle.model.proofs.Progressions.{fits_at}
 use Rattle.detector.specs.Laws.{Lawful}

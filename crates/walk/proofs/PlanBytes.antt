@@ -14,7 +14,7 @@ way_bound (suc n) listed (suc i) =
     let v = place listed (suc i) in
     omega (arith, length_push (way n listed v.from) v.by, way_bound n listed v.from)
 
-way_first : (n : ℕ) (listed : List Walked) → way n listed 0 ≡ []
+pub way_first : (n : ℕ) (listed : List Walked) → way n listed 0 ≡ []
 unfolding way
 way_first zero listed = refl
 way_first (suc n) listed = refl

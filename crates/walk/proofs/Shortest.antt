@@ -16,10 +16,7 @@ use Rattle.walk.specs.declared.walked.Walked.{Walked}
 use Rattle.walk.specs.Walks.{place, way}
 use Rattle.walk.proofs.Ways.{rising_way, next_way, listed_state, start_is_first, leads_way, leads_on}
 use Rattle.walk.proofs.Sound.{Sound, Meets}
-
-first_way : (listed : List Walked) → way 0 listed 0 ≡ []
-unfolding way
-first_way listed = refl
+use Rattle.walk.proofs.PlanBytes.{way_first}
 
 -- what an applicable move makes of a state is a state
 move_keeps_states : (d : ModelRecord) (s : Row) (n : ℕ) (m : Move) → Sealed d → state_of_model d s ≡ true → slice_get d.moves n ≡ Some m → applicable m s ≡ true → state_of_model d (progression m s) ≡ true
@@ -70,7 +67,7 @@ module _ (d : ModelRecord) (dead : Row → Bool) (room : ℕ) (start : Row) wher
         ⊎_elim
         (λ (fewer : length others < length found).
         absurd (no_shorter sealed state laws at listed f.sound others 0 f.within f.sound.traced.some
-        (rw (first_way listed) (omega (arith, fewer, length_push (way at listed at) n)))
+        (rw (way_first 0 listed) (omega (arith, fewer, length_push (way at listed at) n)))
         (subst (λ t. Plan d t others) (sym (start_is_first d room start listed f.sound.traced)) p)))
         (λ enough. enough)
         (cases_lt (length others) (length found))

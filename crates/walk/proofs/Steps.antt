@@ -12,14 +12,14 @@ use Rattle.model.specs.Records.{ModelRecord}
 use Rattle.first_come.specs.declared.listed.Listed.{Listed}
 use Rattle.first_come.specs.declared.listed.Listed.TheVariants.{Already, Added, Full as NoPlace}
 use Rattle.first_come.specs.Arrivals.{Kept, arrived, has, has_room, with_next, Answer, listed_told, answer, keep}
-use Rattle.first_come.proofs.Fronts.{nth_none}
+use Rattle.lists.proofs.Fronts.{nth_none, length_over}
 use Rattle.walk.specs.declared.walked.Walked.{Walked}
 use Rattle.walk.specs.declared.course.Course.{Course}
 use Rattle.walk.specs.declared.course.Course.TheVariants.{Underway, Found, Full}
 use Rattle.walk.specs.Sames.{same_state}
 use Rattle.walk.specs.Walks.{Walk, walk_at, unless_ended, onward, came, first, place, on_move, arrive, try_move, try_moves, take_state, take_states}
 use Rattle.walk.specs.WorkLists.{filled, room_of, Made}
-use Rattle.walk.proofs.Buffers.{filled_self, filled_next, arrived_filled, length_over, filled_filled}
+use Rattle.walk.proofs.Buffers.{filled_self, filled_next, arrived_filled, filled_filled}
 
 -- nothing is listed
 made_same : (k : Kept Walked) (course : Course) → k.len ≤ length k.places → Made k k course (walk_at (arrived k) course)

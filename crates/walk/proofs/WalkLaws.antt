@@ -3,7 +3,7 @@ use Rattle.std.proofs.Common.{◌≡◌, ℕ, ◌<◌, ◌≤◌, Bool, true, fa
 use Rattle.std.proofs.lemmas.Bool.{cond_both, ltb-true, ltb-false}
 use Rattle.model.specs.declared.row.Row.{Row}
 use Rattle.model.specs.Rows.{contained}
-use Rattle.model.specs.Members.{Among}
+use Rattle.lists.specs.Members.{Among}
 use Rattle.model.specs.Plans.{Plan}
 use Rattle.model.specs.Records.{ModelRecord, Sealed, state_of_model}
 use Rattle.walk.specs.declared.walked.Walked.{Walked}

@@ -19,7 +19,8 @@ use Rattle.walk.specs.Sames.{same_state}
 use Rattle.walk.specs.Walks.{Walk, walk_at, first, take_states, planned, no_place, outcome_of, WholeWalk, whole, ended, walk_from}
 use Rattle.walk.specs.Answers.{places_used, ended_told, outcome_answer, outcome_plan, walk_answer, work_list_after, plan_after}
 use Rattle.walk.specs.WorkLists.{filled, room_of, Made, Rooted, FoundFromListed}
-use Rattle.walk.proofs.Buffers.{filled_next, arrived_filled, over_front}
+use Rattle.walk.proofs.Buffers.{filled_next, arrived_filled}
+use Rattle.lists.proofs.Fronts.{over_front}
 use Rattle.walk.proofs.Steps.{made_on, grows_take_states, full_without_room, room_if_not_full}
 use Rattle.walk.proofs.WalkLaws.{walk_is_rooted, found_within, every_walk_has_room}
 

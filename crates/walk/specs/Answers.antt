@@ -1,5 +1,6 @@
 -- What a walk answers, and what it leaves in the work list and the plan buffer that it was lent.
 use Rattle.std.specs.Prelude.{ℕ, cond, List, ◌++◌, length, drop, min, map, Ok, Err, Result, nat_le}
+use Rattle.lists.specs.Fronts.{over}
 use Rattle.refusal.specs.declared.Refusal.{Refusal}
 use Rattle.refusal.specs.declared.Refusal.TheVariants.{WorkListFull, BufferTooShort}
 use Rattle.model.specs.declared.row.Row.{Row}
@@ -11,10 +12,6 @@ use Rattle.walk.specs.Walks.{Outcome, planned, exhausted, no_place, WholeWalk}
 -- at most 256 places of the work list are used
 abbrev pub places_used : List Walked → ℕ
 places_used work_list = min 256 (length work_list)
-
--- the items at the front, and behind them what was there
-abbrev pub over : {X : Type 0} → List X → List X → List X
-over items buffer = items ++ drop (length items) buffer
 
 -- the listed states, without the ways to them
 abbrev pub states_of : List Walked → List Row

@@ -4,7 +4,7 @@ use Rattle.model.specs.declared.row.Row.{Row}
 use Rattle.model.specs.declared.moves.Move.{Move}
 use Rattle.model.specs.Rows.{disagree}
 use Rattle.model.specs.Moves.{applicable, progression}
-use Rattle.model.specs.Members.{Among}
+use Rattle.lists.specs.Members.{Among}
 use Rattle.model.specs.Plans.{Plan}
 use Rattle.model.specs.Records.{ModelRecord, Sealed, state_of_model}
 use Rattle.detector.specs.Laws.{Lawful}

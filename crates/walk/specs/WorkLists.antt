@@ -5,7 +5,7 @@ use Rattle.walk.specs.declared.walked.Walked.{Walked}
 use Rattle.walk.specs.declared.course.Course.{Course}
 use Rattle.walk.specs.declared.course.Course.TheVariants.{Underway, Found, Full}
 use Rattle.walk.specs.Walks.{Walk, place}
-use Rattle.walk.specs.Answers.{over}
+use Rattle.lists.specs.Fronts.{over}
 
 -- the places with just these items listed
 abbrev pub filled : {T : Type 0} → Kept T → List T → Kept T

@@ -6,7 +6,7 @@ ghost use Rattle.walk.specs.SameStates.{same_state_equivalence};
 use model::row::Row;
 
 /// A state that a walk has come to, and the way to it. Both numbers are 0 for the state from which the walk began.
-#[derive(Clone, Copy)]
+#[derive(Clone, Copy, Debug)]
 pub struct Walked {
     pub state: Row,
     /// The place in the list of the state before it.

@@ -2,7 +2,8 @@
 ghost use Rattle.std.specs.Prelude.{◌≡◌, ℕ, ◌<◌, ◌≤◌, cond, List, [], ◌∷◌, ◌++◌, length, Ok, Err, Result, nat_le, nat_lt};
 ghost use Rattle.refusal.specs.declared.Refusal.TheVariants.{BufferTooShort};
 ghost use Rattle.walk.specs.Walks.{way, planned};
-ghost use Rattle.walk.specs.Answers.{over, outcome_plan};
+ghost use Rattle.lists.specs.Fronts.{over};
+ghost use Rattle.walk.specs.Answers.{outcome_plan};
 ghost use Rattle.walk.specs.WorkLists.{Rooted};
 
 use crate::walked::Walked;

@@ -1,13 +1,13 @@
 -- The worked examples, by computing. Rows that were made in different ways are compared by their entries.
 use Rattle.std.proofs.Common.{[], ◌∷◌, ◌++◌, refl, ap, lit≤}
-use Rattle.model.specs.Below.{all_below, any_below}
+use Rattle.lists.specs.Below.{all_below, any_below}
 use Rattle.model.specs.Rows.{row_of}
 use Rattle.model.specs.WrongEntries.{first_refusal}
 use Rattle.detectors.specs.Facts.{facts_from}
 use Rattle.detectors.specs.Closure.{first_facts, goal_missed}
 use Rattle.detectors.specs.CutWalk as cuts
 use Rattle.rules.specs.Rules.{keeps_rule_2}
-use Rattle.rules.specs.Searches.{first_failing, first_failing_pair}
+use Rattle.lists.specs.Searches.{first_failing, first_failing_pair}
 use Rattle.walk.specs.Walks.{arrive, try_move, try_moves, take_state, take_states, way, walk_from}
 use Rattle.learning.specs.Parts.{first_part, regained}
 use Rattle.learning.specs.Learns.{regain_lowest, regain_once, regain, regain_count, learned, entries_regained}

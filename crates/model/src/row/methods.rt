@@ -1,6 +1,6 @@
 //! Rows are made, read, changed and compared.
 ghost use Rattle.std.specs.Prelude.{◌≡◌, Some, is_some, Decides};
-ghost use Rattle.model.specs.Rows.{at, filled_row, open_row, with_entry, same_entry, contained, disagree, same_row};
+ghost use Rattle.model.specs.Rows.{at, filled_row, open_row, with_entry, contained, disagree, same_row};
 ghost use Rattle.model.specs.RowLaws.{ContainmentIsReflexive, ContainmentIsTransitive, ContainmentIsAntisymmetric};
 ghost use Rattle.model.specs.SameRows.{same_row_laws};
 

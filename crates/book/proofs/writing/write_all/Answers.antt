@@ -1,5 +1,5 @@
 use Rattle.std.proofs.Common.{arith}
-use Rattle.book.proofs.Laying.{one_more}
+use Rattle.lists.proofs.Laying.{one_more}
 use Rattle.book.proofs.RowBytes.{row_more}
 use Rattle.book.proofs.writing.write_all.Goals as goal
 

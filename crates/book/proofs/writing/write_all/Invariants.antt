@@ -1,5 +1,5 @@
 use Rattle.book.specs.Written.{rows_written}
-use Rattle.book.proofs.Laying.{Laid}
+use Rattle.lists.proofs.Laying.{Laid}
 use Rattle.book.proofs.RowBytes.{rows_rest}
 use Rattle.book.proofs.writing.write_all.Given as goal
 

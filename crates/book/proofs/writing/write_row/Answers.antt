@@ -1,6 +1,6 @@
 use Rattle.std.proofs.Common.{ap, sym, ◌∙◌, length, arith}
 use Rattle.std.proofs.Math.Seq.{sets}
-use Rattle.book.proofs.Laying.{one_more, room}
+use Rattle.lists.proofs.Laying.{one_more, room}
 use Rattle.book.proofs.RowBytes.{entry_more, entries_ended}
 use Rattle.book.proofs.writing.write_row.Goals as goal
 

@@ -1,5 +1,5 @@
 use Rattle.book.specs.Written.{row_written}
-use Rattle.book.proofs.Laying.{Laid}
+use Rattle.lists.proofs.Laying.{Laid}
 use Rattle.book.proofs.RowBytes.{row_rest}
 use Rattle.book.proofs.writing.write_row.Given as goal
 

@@ -1,6 +1,6 @@
 use Rattle.std.proofs.Common.{arith}
 use Rattle.rules.specs.Rules.{stays_in}
-use Rattle.rules.proofs.Searches.{failing_found, failing_passed, failing_ended, pair_found, pair_passed, pair_ended}
+use Rattle.lists.proofs.Searches.{failing_found, failing_passed, failing_ended, pair_found, pair_passed, pair_ended}
 use Rattle.rules.proofs.set.first_leading_out.Goals as goal
 
 pub returns-then-not-stays_in : goal.returns-then-not-stays_in

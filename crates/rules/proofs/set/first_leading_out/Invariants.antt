@@ -1,6 +1,6 @@
 use Rattle.std.proofs.Common.{◌≡◌, drop}
 use Rattle.rules.specs.Rules.{stays_in}
-use Rattle.rules.specs.Searches.{first_failing, first_failing_pair}
+use Rattle.lists.specs.Searches.{first_failing, first_failing_pair}
 use Rattle.rules.proofs.set.first_leading_out.Given as goal
 
 -- what is left of the list gives the whole answer

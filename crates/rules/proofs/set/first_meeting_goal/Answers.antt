@@ -1,6 +1,6 @@
 use Rattle.std.proofs.Common.{arith}
 use Rattle.rules.specs.Rules.{keeps_rule_1}
-use Rattle.rules.proofs.Searches.{failing_found, failing_passed, failing_ended}
+use Rattle.lists.proofs.Searches.{failing_found, failing_passed, failing_ended}
 use Rattle.rules.proofs.set.first_meeting_goal.Goals as goal
 
 pub returns-then-not-disagrees : goal.returns-then-not-disagrees

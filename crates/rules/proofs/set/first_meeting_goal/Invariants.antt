@@ -1,6 +1,6 @@
 use Rattle.std.proofs.Common.{◌≡◌, drop}
 use Rattle.rules.specs.Rules.{keeps_rule_1}
-use Rattle.rules.specs.Searches.{first_failing}
+use Rattle.lists.specs.Searches.{first_failing}
 use Rattle.rules.proofs.set.first_meeting_goal.Given as goal
 
 -- what is left of the list gives the whole answer

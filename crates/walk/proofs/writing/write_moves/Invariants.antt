@@ -1,6 +1,6 @@
 use Rattle.std.proofs.Common.{◌≡◌, ◌<◌, ◌≤◌, ◌++◌, length, drop}
 use Rattle.walk.specs.Walks.{way}
-use Rattle.walk.specs.Answers.{over}
+use Rattle.lists.specs.Fronts.{over}
 use Rattle.walk.proofs.writing.write_moves.Given as goal
 
 abbrev pub invariant-loop-place : goal.invariant-loop-place

@@ -3,7 +3,7 @@ use Rattle.model.specs.Records.{ModelRecord}
 use Rattle.book.specs.declared.refused.Refused.{Refused}
 use Rattle.book.specs.Offers.{list_checked}
 use Rattle.rules.specs.Rules.{keeps_rule_1}
-use Rattle.rules.specs.Searches.{first_failing}
+use Rattle.lists.specs.Searches.{first_failing}
 use Rattle.book.proofs.Orders.{leads_out_refused, none_leads_out}
 use Rattle.book.proofs.book.Book.check_offer.Goals as goal
 

@@ -6,8 +6,9 @@ use Rattle.walk.specs.Answers.{states_of}
 use Rattle.rules.specs.Rules.{keeps_rules}
 use Rattle.book.specs.Probes.{walk_of}
 use Rattle.book.proofs.ProbeLaws.{listed_fit, listed_keep_the_rules, listed_few}
-use Rattle.book.proofs.ProbeSteps.{all_were_taken, front_over}
+use Rattle.book.proofs.ProbeSteps.{all_were_taken}
 use Rattle.book.proofs.book.Book.walk_and_learn.Goals as goal
+use Rattle.lists.proofs.Fronts.{front_over}
 
 pub learn_listed-requires-clause-few : goal.learn_listed-requires-clause-few
 unfolding walk_of

@@ -4,7 +4,7 @@ use Rattle.std.proofs.lemmas.Iterator.{YieldsList-from_range}
 use Rattle.std.proofs.lemmas.Iterator.Search.{all_from_yields_List}
 use Rattle.model.specs.Rows.{at}
 use Rattle.model.specs.Limits.{size_at, entry_fits}
-use Rattle.model.proofs.Chains.{all_below_each}
+use Rattle.lists.proofs.Chains.{all_below_each}
 use Rattle.model.proofs.domain.Domain.fits.Goals as goal
 
 pub returns : goal.returns

@@ -2,9 +2,9 @@ use Rattle.std.proofs.Common.{ℕ, Bool, is_some, refl, ap, ◌∙◌, arith, ru
 use borrow.Author.Tests.{tests}
 use Rattle.std.proofs.lemmas.Iterator.{YieldsList-from_range}
 use Rattle.std.proofs.lemmas.Iterator.Search.{all_from_yields_List}
-use Rattle.model.specs.Below.{all_below}
+use Rattle.lists.specs.Below.{all_below}
 use Rattle.model.specs.Rows.{at}
-use Rattle.model.proofs.Chains.{all_below_each}
+use Rattle.lists.proofs.Chains.{all_below_each}
 use Rattle.model.proofs.domain.Domain.given_by.Goals as goal
 
 pub returns : goal.returns

@@ -2,7 +2,7 @@ use Rattle.std.proofs.Common.{None, sym, ◌∙◌, rules}
 use borrow.Author.Tests.{tests}
 use Rattle.model.specs.Moves.{next_entry}
 use Rattle.model.specs.SameRows.{row_ext}
-use Rattle.model.proofs.Chains.{array_made}
+use Rattle.lists.proofs.Chains.{array_made}
 use Rattle.model.proofs.RowFacts.{at_row_of}
 use Rattle.model.proofs.moves.Move.progression.Goals as goal
 

@@ -4,7 +4,7 @@ use borrow.Author.Tests.{tests}
 use Rattle.std.proofs.lemmas.Iterator.{YieldsList-from_zip, YieldsList-from_slice}
 use Rattle.std.proofs.lemmas.Iterator.Search.{all_from_yields_List}
 use Rattle.model.specs.Rows.{keeps}
-use Rattle.model.proofs.Chains.{all_below_pairs}
+use Rattle.lists.proofs.Chains.{all_below_pairs}
 use Rattle.model.proofs.row.Row.contained_in.Goals as goal
 
 pub returns-clause-answer : goal.returns-clause-answer

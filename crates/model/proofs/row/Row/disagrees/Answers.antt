@@ -4,7 +4,7 @@ use borrow.Author.Tests.{tests}
 use Rattle.std.proofs.lemmas.Iterator.{YieldsList-from_zip, YieldsList-from_slice}
 use Rattle.std.proofs.lemmas.Iterator.Search.{any_from_yields_List}
 use Rattle.model.specs.Rows.{differ}
-use Rattle.model.proofs.Chains.{any_below_pairs}
+use Rattle.lists.proofs.Chains.{any_below_pairs}
 use Rattle.model.proofs.row.Row.disagrees.Goals as goal
 
 pub returns : goal.returns

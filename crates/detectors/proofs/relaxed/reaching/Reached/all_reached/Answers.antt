@@ -5,7 +5,7 @@ use Rattle.first_come.specs.Arrivals.{arrived}
 use Rattle.model.specs.Rows.{at}
 use Rattle.detectors.specs.Facts.{entry_reached}
 use Rattle.detectors.specs.ReachedList.{facts}
-use Rattle.model.proofs.Chains.{all_below_each}
+use Rattle.lists.proofs.Chains.{all_below_each}
 use Rattle.detectors.proofs.relaxed.reaching.Reached.all_reached.Goals as goal
 
 pub returns : goal.returns

@@ -20,9 +20,6 @@ pub record Laid (before : List ℕ) (start : ℕ) (all now : List ℕ) (place : 
   pub end : place + length rest ≡ start + length all
   pub size : length now ≡ length before
 
-pub begun : (before : List ℕ) (start : ℕ) (all : List ℕ) → Laid before start all before start all
-begun before start all = record { same = refl; end = refl; size = refl }
-
 module _ {before all now rest : List ℕ} {start place : ℕ} (l : Laid before start all now place rest) (piece more : List ℕ) (cut : rest ≡ piece ++ more) where
   -- one piece more is set
   pub one_more : {after : List ℕ} {next : ℕ} → after ≡ sets now place piece → next ≡ place + length piece → Laid before start all after next more

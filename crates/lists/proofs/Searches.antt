@@ -1,7 +1,7 @@
 -- One item more of a list that is searched.
 use Rattle.std.proofs.Common.{◌≡◌, ℕ, ◌+◌, ◌<◌, ◌≤◌, Bool, true, false, cond, List, length, drop, get_or, Some, None, Option, sym, ◌∙◌}
 use Rattle.std.proofs.lemmas.List.{drop_more, drop_all}
-use Rattle.rules.specs.Searches.{first_failing, or_later, first_failing_pair}
+use Rattle.lists.specs.Searches.{first_failing, or_later, first_failing_pair}
 
 -- a search of a list from the place i on, of which the whole is known
 module _ {X : Type 0} (test : X → Bool) (xs : List X) (i : ℕ) (whole : Option ℕ) (left : first_failing test i (drop i xs) ≡ whole) where

@@ -1,12 +1,23 @@
 -- The elements of lists, and tests that all of them pass, or one.
-use Rattle.std.proofs.Common.{◌≡◌, suc, ◌<◌, ◌≤◌, Bool, true, false, ◌⊎◌, ◌&&◌, ◌||◌, cond, List, [], ◌∷◌, ◌++◌, length, sym, refl, ap, ◌∙◌, subst, inl, inr, ⊎_elim, arith}
+use Rattle.std.proofs.Common.{◌≡◌, ℕ, zero, suc, ◌<◌, ◌≤◌, Bool, true, false, ◌⊎◌, ◌&&◌, ◌||◌, cond, List, [], ◌∷◌, ◌++◌, length, Some, sym, refl, ap, ◌∙◌, subst, inl, inr, ⊎_elim, arith}
 use Rattle.std.proofs.lemmas.Bool.{and_parts, and_from, and_cases, or_cases, or_left, or_right, cond_both, false≢true, true≢false, both_ways}
 use Rattle.std.proofs.lemmas.List.Folds.{list_all-append, list_any-append}
-use Rattle.std.specs.List.{list_all, list_any, filter}
-use Rattle.model.specs.declared.row.Row.{Row}
-use Rattle.model.specs.Rows.{contained}
-use Rattle.model.specs.Members.{Among}
-use Rattle.rules.specs.Rules.{covers}
+use Rattle.std.specs.List.{list_all, list_any, filter, slice_get}
+use Rattle.lists.specs.Members.{Among}
+
+module _ {X : Type 0} where
+  -- the element at a place is one of them
+  pub nth_among : (xs : List X) (n : ℕ) (x : X) → slice_get xs n ≡ Some x → Among xs x
+  nth_among [] n x is = cc
+  nth_among (y ∷ ys) zero x is = inl (cc)
+  nth_among (y ∷ ys) (suc n) x is = inr (nth_among ys n x is)
+
+  -- what holds of every element holds of each
+  pub all_among : (p : X → Bool) (xs : List X) (x : X) → list_all p xs ≡ true → Among xs x → p x ≡ true
+  all_among p [] x h a = absurd a
+  all_among p (y ∷ ys) x h a =
+      let parts = and_parts (p y) (list_all p ys) h in
+      ⊎_elim (λ e. subst (λ z. p z ≡ true) e parts.0) (all_among p ys x parts.1) a
 
 -- elements of two lists, one behind the other
 module _ {X : Type 0} where
@@ -23,9 +34,6 @@ module _ {X : Type 0} where
   among_cases (y ∷ xs) ys x a =
       ⊎_elim (λ e. inl (inl e)) (λ b. ⊎_elim (λ c. inl (inr c)) inr (among_cases xs ys x b)) a
 
-  -- each element of the one is one of the other
-  abbrev pub Within : List X → List X → Type 0
-  Within xs ys = (x : X) → Among xs x → Among ys x
 
 -- tests of the elements; that what holds of all of them holds of each is `all_among`
 module _ {X : Type 0} (p : X → Bool) where
@@ -97,16 +105,3 @@ module _ {X : Type 0} (p : X → Bool) where
       cond_both (p y) (y ∷ filter p ys) (filter p ys) (λ l. length l < suc (length ys))
       (λ passes. ⊎_elim (λ fails. absurd (both_ways (p y) fails passes)) (λ one. let less = filter_drops ys one in omega (arith, less)) (and_cases (p y) (list_all p ys) e))
       (λ _. let less = length_filtered ys in omega (arith, less))
-
--- rows of a set that are contained in a row
-pub covering : (set : List Row) (t : Row) → covers set t ≡ true → (r : Row) × Among set r × (contained r t ≡ true)
-covering set t h = any_among (λ r. contained r t) set h
-
-pub covered : (set : List Row) (t r : Row) → Among set r → contained r t ≡ true → covers set t ≡ true
-covered set t r a h = any_from (λ r. contained r t) set r a h
-
-pub covered_by_more : (set more : List Row) (t : Row) → Within set more → covers set t ≡ true → covers more t ≡ true
-covered_by_more set more t within h = let found = covering set t h in covered more t found.0 (within found.0 found.1) found.2
-
-pub covers_both : (xs ys : List Row) (t : Row) → covers (xs ++ ys) t ≡ (covers xs t || covers ys t)
-covers_both xs ys t = list_any-append (λ r. contained r t) xs ys

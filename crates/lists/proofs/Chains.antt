@@ -9,7 +9,7 @@ use Rattle.std.proofs.lemmas.Slice.Zip.{get_or-zip, length-zip}
 use denote.Param.Members.{Mut, Called}
 use Rattle.std.specs.Array.{IsFromFnResult, IsFromFnResultFrom}
 use Rattle.std.specs.List.{list_all, list_any, range_with_len, zip}
-use Rattle.model.specs.Below.{all_below, any_below}
+use Rattle.lists.specs.Below.{all_below, any_below}
 
 -- p tests the numbers as q tests the elements of a list at their places
 module _ {X : Type 0} (p : ℕ → Bool) (q : X → Bool) (xs : List X) (d : X) (same : (k : ℕ) → k < length xs → p k ≡ q (get_or xs k d)) where

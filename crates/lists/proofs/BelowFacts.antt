@@ -2,7 +2,7 @@
 use Rattle.std.proofs.Common.{◌≡◌, ℕ, ◌<◌, Bool, true, false, Decides, refl}
 use Rattle.std.proofs.lemmas.Bool.{false≢true, both_ways}
 use Rattle.std.proofs.lemmas.Bool.Decides.{Decides-below_and, Decides-below_or, same_from_decides}
-use Rattle.model.specs.Below.{all_below, any_below}
+use Rattle.lists.specs.Below.{all_below, any_below}
 
 module _ (p : ℕ → Bool) (n : ℕ) where
   pub all_below_decides : Decides (all_below p n) ((k : ℕ) → k < n → p k ≡ true)

@@ -1,0 +1,4 @@
+pub mod Members
+pub mod Below
+pub mod Searches
+pub mod Fronts
