@@ -2,20 +2,16 @@
 ghost use Rattle.std.specs.Prelude.{◌≡◌, [], ◌∷◌, length, OnOk};
 ghost use Rattle.std.specs.Io.KnownBytes.{Appends};
 ghost use Rattle.sheet.specs.Commands.{commands_from};
-ghost use Rattle.orders.specs.Orders.{answer_told};
-ghost use Rattle.session.specs.Orders.{Lent, bytes_told, stops};
+ghost use Rattle.session.specs.Orders.{Lent, stops};
 ghost use Rattle.session.specs.Sessions.{came, detector_of, lent_of, state_of};
 ghost use Rattle.desk.specs.Lines.{line_told, printed};
-ghost use Rattle.desk.specs.Carrying.{answer_line, line_of, order_lines, printed_of};
+ghost use Rattle.desk.specs.Carrying.{line_of, order_lines, printed_of};
 ghost use Rattle.desk.specs.Openings.{opening};
 ghost use Rattle.desk.specs.Promise.{SheetKeepsThePromise};
 
 use crate::lines::Line;
 use crate::opening::{Opening, Stop, open_sheet};
-use book::probed::Probed;
-use book::settled::Settled;
 use detector::Detector;
-use orders::answer::Answer;
 use session::outcome::Outcome;
 use session::session::Session;
 use sheet::command_at;
@@ -74,7 +70,10 @@ fn write_outcome<D: Detector, W: io::Write>(
 {
     match outcome {
         Outcome::Quiet => Ok(()),
-        Outcome::Answered(answer) => write_line(out, answer_line(session, answer)),
+        Outcome::Answered(answer) => write_line(
+            out,
+            Line::of_answer(answer, session.plan(), session.buffer()),
+        ),
         Outcome::Stopped(refusal) => write_line(out, Line::from(Stop::at(size, place, refusal))),
     }
 }
@@ -84,37 +83,6 @@ fn stops(outcome: Outcome) -> bool
     ensures { (l : Lent) → result ≡ stops (came l outcome) }
 {
     matches!(outcome, Outcome::Stopped(_))
-}
-
-/// The line of an answer to an order that the session gave last.
-fn answer_line<'a, D: Detector>(session: &'a Session<D>, answer: Answer) -> Line<'a>
-    ensures { line_told result ≡ answer_line (answer_told answer) (bytes_told (answer_told answer) (lent_of session.now)) }
-{
-    match answer {
-        Answer::Judged(verdict) => Line::Judge(verdict),
-        Answer::Probed(
-            Probed::Dead {
-                states,
-                rows,
-                entries,
-            },
-        ) => Line::ProbeDead {
-            states,
-            rows,
-            entries,
-        },
-        Answer::Probed(Probed::Plan { states, length }) => Line::ProbePlan {
-            states,
-            length,
-            moves: session.plan(length),
-        },
-        Answer::Offered(added) => Line::Offer { added },
-        Answer::Settled(Settled { added, rounds }) => Line::Settle { added, rounds },
-        Answer::Written(length) => Line::Write {
-            bytes: session.written(length),
-        },
-        Answer::Refused(refused) => Line::from(refused),
-    }
 }
 
 /// Writes one line with its end.

@@ -1,14 +1,20 @@
 //! The lines that the program prints.
-ghost use Rattle.std.specs.Prelude.{◌≡◌, Some};
+ghost use Rattle.std.specs.Prelude.{◌≡◌, [], Some, take};
 ghost use Rattle.std.specs.Fmt.{WritesOnOk};
 ghost use Rattle.std.specs.List.{flat_map};
 ghost use Rattle.model.specs.Drafts.{recorded};
+ghost use Rattle.orders.specs.Orders.{answer_told};
+ghost use Rattle.session.specs.Orders.{bytes_told, lent};
 ghost use Rattle.desk.specs.Lines.{hex_byte, move_bytes, part_bytes, line_bytes, line_told, model_line, refused_line, stop_line};
+ghost use Rattle.desk.specs.Carrying.{answer_line};
 
 use crate::opening::Stop;
+use book::probed::Probed;
 use book::refused::Refused;
+use book::settled::Settled;
 use detector::verdict::Verdict;
 use model::sealed::Model;
+use orders::answer::Answer;
 use std::fmt;
 
 /// One line, without its end.
@@ -59,6 +65,46 @@ pub enum Line<'a> {
     },
     /// All of the sheet is carried out.
     End,
+}
+
+impl<'a> Line<'a> {
+    /// The line of an answer. The moves of a plan lie at the front of the one buffer, the book as it is written at the front of the other.
+    pub fn of_answer(answer: Answer, plan: &'a [u8], buffer: &'a [u8]) -> Line<'a>
+        ensures { line_told result ≡ answer_line (answer_told answer) (bytes_told (answer_told answer) (lent [] plan.now buffer.now)) }
+    {
+        match answer {
+            Answer::Judged(verdict) => Line::Judge(verdict),
+            Answer::Probed(
+                Probed::Dead {
+                    states,
+                    rows,
+                    entries,
+                },
+            ) => Line::ProbeDead {
+                states,
+                rows,
+                entries,
+            },
+            Answer::Probed(Probed::Plan { states, length }) => Line::ProbePlan {
+                states,
+                length,
+                moves: front(plan, length),
+            },
+            Answer::Offered(added) => Line::Offer { added },
+            Answer::Settled(Settled { added, rounds }) => Line::Settle { added, rounds },
+            Answer::Written(length) => Line::Write {
+                bytes: front(buffer, length),
+            },
+            Answer::Refused(refused) => Line::from(refused),
+        }
+    }
+}
+
+/// So many bytes at the front of the buffer, or all, if it has fewer.
+fn front(buffer: &[u8], length: usize) -> &[u8]
+    ensures { result.now ≡ take length buffer.now }
+{
+    &buffer[..length.min(buffer.len())]
 }
 
 impl<'a> From<&Model> for Line<'a> {

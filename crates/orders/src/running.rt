@@ -54,29 +54,14 @@ fn obey<D: Detector>(book: &mut Book<D>, order: &mut Order) -> Answer
     ensures left { brought order.new ≡ left_of (D.carried (book_detector book.old)) (D.dead (book_detector book.old)) (book_rows book.old) (brought order.old) }
 {
     match order {
-        Order::Judge(row) => match book.judge(row) {
-            Ok(verdict) => Answer::Judged(verdict),
-            Err(refusal) => Answer::Refused(refusal.into()),
-        },
+        Order::Judge(row) => Answer::judged(book.judge(row)),
         Order::Probe {
             state,
             work_list,
             plan,
-        } => match book.probe(state, work_list.as_mut_slice(), plan.as_mut_slice()) {
-            Ok(probed) => Answer::Probed(probed),
-            Err(refusal) => Answer::Refused(refusal.into()),
-        },
-        Order::Offer(list) => match book.offer(list.as_slice()) {
-            Ok(added) => Answer::Offered(added),
-            Err(refused) => Answer::Refused(refused),
-        },
-        Order::Settle(candidates) => match book.settle(candidates.as_slice()) {
-            Ok(settled) => Answer::Settled(settled),
-            Err(refused) => Answer::Refused(refused),
-        },
-        Order::Write(buffer) => match book.write(buffer.as_mut_slice()) {
-            Ok(length) => Answer::Written(length),
-            Err(refusal) => Answer::Refused(refusal.into()),
-        },
+        } => Answer::probed(book.probe(state, work_list.as_mut_slice(), plan.as_mut_slice())),
+        Order::Offer(list) => Answer::offered(book.offer(list.as_slice())),
+        Order::Settle(candidates) => Answer::settled(book.settle(candidates.as_slice())),
+        Order::Write(buffer) => Answer::written(book.write(buffer.as_mut_slice())),
     }
 }

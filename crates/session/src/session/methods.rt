@@ -1,5 +1,5 @@
 //! Commands are carried out, one by one.
-ghost use Rattle.std.specs.Prelude.{◌≡◌, [], IfOk, take};
+ghost use Rattle.std.specs.Prelude.{◌≡◌, [], IfOk};
 ghost use Rattle.sheet.specs.Reading.{told};
 ghost use Rattle.orders.specs.Orders.{judge, offer, probe, settle, write};
 ghost use Rattle.session.specs.Orders.{command_turn, entry_turn, fresh_lent, next_turn, order_turn};
@@ -119,10 +119,7 @@ impl<D: Detector> Session<D> {
     {
         let judged = self.book.judge(self.gathered.row());
         self.gathered.drop_row();
-        Outcome::Answered(match judged {
-            Ok(verdict) => Answer::Judged(verdict),
-            Err(refusal) => Answer::Refused(refusal.into()),
-        })
+        Outcome::Answered(Answer::judged(judged))
     }
 
     /// Probes the row in hand, which is dropped then.
@@ -145,10 +142,7 @@ impl<D: Detector> Session<D> {
             plan.as_mut_slice(),
         );
         gathered.drop_row();
-        Outcome::Answered(match probed {
-            Ok(probed) => Answer::Probed(probed),
-            Err(refusal) => Answer::Refused(refusal.into()),
-        })
+        Outcome::Answered(Answer::probed(probed))
     }
 
     /// Offers the list, which is dropped then.
@@ -160,10 +154,7 @@ impl<D: Detector> Session<D> {
     {
         let offered = self.book.offer(self.gathered.list());
         self.gathered.drop_list();
-        Outcome::Answered(match offered {
-            Ok(added) => Answer::Offered(added),
-            Err(refused) => Answer::Refused(refused),
-        })
+        Outcome::Answered(Answer::offered(offered))
     }
 
     /// Settles the list, which is dropped then.
@@ -175,10 +166,7 @@ impl<D: Detector> Session<D> {
     {
         let settled = self.book.settle(self.gathered.list());
         self.gathered.drop_list();
-        Outcome::Answered(match settled {
-            Ok(settled) => Answer::Settled(settled),
-            Err(refused) => Answer::Refused(refused),
-        })
+        Outcome::Answered(Answer::settled(settled))
     }
 
     /// Writes the book into the buffer.
@@ -188,23 +176,21 @@ impl<D: Detector> Session<D> {
         ensures over { detector_of self.new ≡ detector_of self.old }
         ensures lent { lent_of self.new ≡ lent_behind (D.carried (detector_of self.old)) (D.dead (detector_of self.old)) (lent_of self.old) (state_of self.old) (0x57, []) }
     {
-        Outcome::Answered(match self.book.write(self.buffer.as_mut_slice()) {
-            Ok(length) => Answer::Written(length),
-            Err(refusal) => Answer::Refused(refusal.into()),
-        })
+        let written = self.book.write(self.buffer.as_mut_slice());
+        Outcome::Answered(Answer::written(written))
     }
 
-    /// The first bytes of the buffer. Behind a command that was answered with `Written(length)` these are the book as it is written, until it is written again.
-    pub fn written(&self, length: usize) -> &[u8]
-        ensures { result.now ≡ take length (lent_of self.now).buffer }
+    /// The plan buffer. Behind a probe that was answered with a plan its moves lie at the front, until a plan is found again.
+    pub fn plan(&self) -> &[u8]
+        ensures { result.now ≡ (lent_of self.now).plan }
     {
-        &self.buffer.as_slice()[..length.min(BYTES)]
+        self.plan.as_slice()
     }
 
-    /// The first moves of the plan buffer. Behind a command that was answered with a plan of this length these are its moves, until a plan is found again.
-    pub fn plan(&self, length: usize) -> &[u8]
-        ensures { result.now ≡ take length (lent_of self.now).plan }
+    /// The buffer for the book. Behind a write that was not refused the book lies at the front as it is written, until it is written again.
+    pub fn buffer(&self) -> &[u8]
+        ensures { result.now ≡ (lent_of self.now).buffer }
     {
-        &self.plan.as_slice()[..length.min(MOVES)]
+        self.buffer.as_slice()
     }
 }
