@@ -10,7 +10,7 @@ use Rattle.model.specs.Records.{ModelRecord}
 use Rattle.sheet.specs.Reading.{Told, is_fault}
 use Rattle.sheet.specs.Commands.{Item, item_found, commands_from}
 use Rattle.sheet.proofs.CommandList.{commands_none, commands_some, found_moves_on}
-use Rattle.session.specs.Orders.{State, fresh_lent, Came, stops, Turn, command_turn, unless_stopped}
+use Rattle.session.specs.Turns.{State, fresh_lent, Came, stops, Turn, command_turn, unless_stopped}
 use Rattle.desk.specs.Lines.{Said, end, line_bytes, printed}
 use Rattle.desk.specs.Carrying.{line_of, order_lines}
 

@@ -6,7 +6,7 @@ use Rattle.model.specs.declared.row.Row.{Row}
 use Rattle.sheet.specs.Commands.{commands_from}
 use Rattle.detectors.specs.declared.shipped.Shipped.{Shipped}
 use Rattle.detectors.specs.Shipping.{shipped_model, shipped_dead, detector_told, told_dead, MeansWhatIsTold}
-use Rattle.session.specs.Orders.{State}
+use Rattle.session.specs.Turns.{State}
 use Rattle.session.specs.Sessions.{fresh_state}
 use Rattle.desk.specs.Lines.{Said, model_line, printed}
 use Rattle.desk.specs.Carrying.{order_lines, opened_lines, printed_of}

@@ -5,7 +5,7 @@ use Rattle.model.specs.Records.{ModelRecord}
 use Rattle.sheet.specs.Commands.{Item, commands_from}
 use Rattle.detectors.specs.Shipping.{told_dead}
 use Rattle.orders.specs.Orders.{AnswerTold, judged, called_dead, has_plan, offered, settled, wrote, refused as turned_down}
-use Rattle.session.specs.Orders.{State, fresh_lent, Came, quiet, answered, stopped, command_turn, unless_stopped}
+use Rattle.session.specs.Turns.{State, fresh_lent, Came, quiet, answered, stopped, command_turn, unless_stopped}
 use Rattle.session.specs.Sessions.{fresh_state}
 use Rattle.desk.specs.Lines.{Said, judge, probe_dead, probe_plan, offer, settle, write, refused, end, model_line, stop_line, printed}
 use Rattle.desk.specs.ModelPart.{stop_at}

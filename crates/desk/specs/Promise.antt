@@ -1,13 +1,14 @@
 -- What the lines of a sheet promise.
-use Rattle.std.specs.Prelude.{◌≡◌, ◌⊎◌, ℕ, Bool, List, [], ◌∷◌, ◌++◌, length}
+use Rattle.std.specs.Prelude.{◌≡◌, ℕ, Bool, true, false, List, [], ◌∷◌, ◌++◌, length, Some}
 use Rattle.model.specs.declared.row.Row.{Row}
 use Rattle.model.specs.Records.{ModelRecord}
 use Rattle.sheet.specs.Commands.{commands_from}
 use Rattle.detectors.specs.Shipping.{told_dead}
+use Rattle.hand.specs.Gathering.{nothing}
 use Rattle.orders.specs.Orders.{Brought, AnswerTold}
 use Rattle.orders.specs.Runs.{answers_run, left_run}
 use Rattle.orders.specs.WholeRuns.{PromiseOverTheWholeRun}
-use Rattle.session.specs.Orders.{bytes_told, lent_to, orders_given}
+use Rattle.session.specs.Turns.{bytes_told, comes_to_the_end, lent_to, orders_given}
 use Rattle.session.specs.Sessions.{fresh_state}
 use Rattle.desk.specs.Lines.{Said, end}
 use Rattle.desk.specs.Lines as lines
@@ -20,15 +21,16 @@ answer_lines [] left = []
 answer_lines (a ∷ answers) [] = []
 answer_lines (a ∷ answers) (o ∷ left) = answer_line a (bytes_told a (lent_to o)) ∷ answer_lines answers left
 
--- the line is `end`, or a stop
-abbrev pub Closes : Said → Type 0
-Closes line = (line ≡ end) ⊎ ((number : ℕ) × (place : ℕ) × (line ≡ lines.stop number place))
+-- the line is `end`, or where the run does not come to the end of the commands, a stop
+abbrev pub Closes : Bool → Said → Type 0
+Closes true line = line ≡ end
+Closes false line = (number : ℕ) × (place : ℕ) × (line ≡ lines.stop number place)
 
 -- The lines tell the run of these orders on a new book over a detector that carries the model d and calls the rows of `dead` dead: a line for each answer, in
 -- order, and a last one that closes. And that run keeps the promise over whole runs.
-pub record KeepsThePromise (d : ModelRecord) (dead : Row → Bool) (given : List Brought) (lines : List Said) : Type 0 where
+pub record KeepsThePromise (d : ModelRecord) (dead : Row → Bool) (given : List Brought) (to_the_end : Bool) (lines : List Said) : Type 0 where
   pub last : Said
-  pub the_last_closes : Closes last
+  pub the_last_closes : Closes to_the_end last
   pub a_line_for_each_answer : lines ≡ answer_lines (answers_run d dead [] given) (left_run d dead [] given) ++ last ∷ []
   pub the_run_keeps_it : PromiseOverTheWholeRun d dead given (left_run d dead [] given) (answers_run d dead [] given)
 
@@ -39,4 +41,4 @@ SheetKeepsThePromise sheet (unchosen d stop) = Unit {0}
 SheetKeepsThePromise sheet (orders d detector place) =
     let dead = told_dead d detector in
     let items = commands_from sheet place in
-    KeepsThePromise d dead (orders_given d dead fresh_state items) (order_lines d dead (length sheet) fresh_state items)
+    KeepsThePromise d dead (orders_given d.variables items) (comes_to_the_end d.variables (Some nothing) items) (order_lines d dead (length sheet) fresh_state items)

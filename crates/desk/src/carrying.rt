@@ -2,7 +2,7 @@
 ghost use Rattle.std.specs.Prelude.{◌≡◌, [], ◌∷◌, length, OnOk};
 ghost use Rattle.std.specs.Io.KnownBytes.{Appends};
 ghost use Rattle.sheet.specs.Commands.{commands_from};
-ghost use Rattle.session.specs.Orders.{Lent, stops};
+ghost use Rattle.session.specs.Turns.{Lent, stops};
 ghost use Rattle.session.specs.Sessions.{came, detector_of, lent_of, state_of};
 ghost use Rattle.desk.specs.Lines.{line_told, printed};
 ghost use Rattle.desk.specs.Carrying.{line_of, order_lines, printed_of};

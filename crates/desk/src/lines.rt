@@ -4,7 +4,7 @@ ghost use Rattle.std.specs.Fmt.{WritesOnOk};
 ghost use Rattle.std.specs.List.{flat_map};
 ghost use Rattle.model.specs.Drafts.{recorded};
 ghost use Rattle.orders.specs.Orders.{answer_told};
-ghost use Rattle.session.specs.Orders.{bytes_told, lent};
+ghost use Rattle.session.specs.Turns.{bytes_told, lent};
 ghost use Rattle.desk.specs.Lines.{hex_byte, move_bytes, part_bytes, line_bytes, line_told, model_line, refused_line, stop_line};
 ghost use Rattle.desk.specs.Carrying.{answer_line};
 

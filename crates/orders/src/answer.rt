@@ -12,7 +12,7 @@ use detector::verdict::Verdict;
 use refusal::Refusal;
 
 /// What a book answers to an order.
-#[derive(Clone, Copy, PartialEq, Eq)]
+#[derive(Clone, Copy, Debug, PartialEq, Eq)]
 pub enum Answer {
     /// To a judge: the verdict.
     Judged(Verdict),

@@ -24,7 +24,7 @@ use Rattle.book.specs.Written.{rows_written}
 use Rattle.orders.specs.Orders as orders
 use Rattle.orders.specs.Orders.{Brought, probe, write, wrote}
 use Rattle.orders.specs.Runs.{told_by, probe_told, answer, rows_after, left_of}
-use Rattle.session.specs.Orders.{State, state, Lent, lent, fresh_lent, Came, answered, bytes_told, Turn, order_turn, other_turn, command_turn}
+use Rattle.session.specs.Turns.{State, state, Lent, lent, fresh_lent, Came, answered, bytes_told, Turn, order_turn, other_turn, command_turn}
 use Rattle.lists.proofs.Fronts.{front_over}
 
 -- an answer or a refusal, with what was lent

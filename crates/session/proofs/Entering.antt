@@ -4,7 +4,7 @@ use Rattle.std.proofs.lemmas.Bool.{true≢false}
 use Rattle.model.specs.Records.{ModelRecord}
 use Rattle.model.specs.Tables.{Answer}
 use Rattle.hand.specs.Gathering.{Gathering, enter_answer, after_entry}
-use Rattle.session.specs.Orders.{State, state, Turn, quiet, gathers, entry_turn}
+use Rattle.session.specs.Turns.{State, state, Turn, quiet, gathers, entry_turn}
 
 quiet_gathers : (a : Answer) → Ok tt ≡ a → (s : State) (g h : Gathering) → g ≡ h → ◌≡◌ {A = Turn} (quiet, state s.rows g) (gathers a s h)
 quiet_gathers (Ok u) told s g h same = rw same refl

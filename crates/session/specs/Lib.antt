@@ -1,3 +1,3 @@
-pub mod Orders
+pub mod Turns
 pub mod Sessions
 pub mod WrittenBook

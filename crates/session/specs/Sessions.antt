@@ -11,7 +11,7 @@ use Rattle.orders.specs.Orders.{answer_told}
 use Rattle.session.specs.declared.outcome.Outcome.{Outcome}
 use Rattle.session.specs.declared.outcome.Outcome.TheVariants.{Quiet, Answered, Stopped}
 use Rattle.session.specs.declared.session.Session.{Session}
-use Rattle.session.specs.Orders.{State, state, Lent, lent, Came, quiet, answered, stopped, bytes_told, Turn}
+use Rattle.session.specs.Turns.{State, state, Lent, lent, Came, quiet, answered, stopped, bytes_told, Turn}
 
 -- a new book, nothing in hand, and an empty list
 abbrev pub fresh_state : State

@@ -3,7 +3,7 @@ use orders::answer::Answer;
 use refusal::Refusal;
 
 /// What comes of a command behind the detector.
-#[derive(Clone, Copy, PartialEq, Eq)]
+#[derive(Clone, Copy, Debug, PartialEq, Eq)]
 pub enum Outcome {
     /// An entry was entered, or a row joined the list: nothing is told.
     Quiet,

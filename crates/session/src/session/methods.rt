@@ -2,7 +2,7 @@
 ghost use Rattle.std.specs.Prelude.{◌≡◌, [], IfOk};
 ghost use Rattle.sheet.specs.Reading.{told};
 ghost use Rattle.orders.specs.Orders.{judge, offer, probe, settle, write};
-ghost use Rattle.session.specs.Orders.{command_turn, entry_turn, fresh_lent, next_turn, order_turn};
+ghost use Rattle.session.specs.Turns.{command_turn, entry_turn, fresh_lent, next_turn, order_turn};
 ghost use Rattle.orders.specs.WholeRuns.{EveryRunKeepsThePromise};
 ghost use Rattle.session.specs.Sessions.{detector_of, fresh_state, lent_behind, lent_of, state_of, turn};
 ghost use Rattle.session.specs.WrittenBook.{WrittenBookReadsBack};

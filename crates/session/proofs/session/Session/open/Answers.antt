@@ -1,6 +1,6 @@
 use Rattle.std.proofs.Common.{◌∙◌, ap, replicate}
 use Rattle.walk.specs.Walks.{first}
-use Rattle.session.specs.Orders.{lent, fresh_lent}
+use Rattle.session.specs.Turns.{lent, fresh_lent}
 use Rattle.session.proofs.session.Session.open.Goals as goal
 
 pub returns-clause-lent : goal.returns-clause-lent

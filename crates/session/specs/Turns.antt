@@ -3,6 +3,7 @@ use Rattle.std.specs.Prelude.{ℕ, Bool, true, false, cond, List, [], ◌∷◌,
 use Rattle.refusal.specs.declared.Refusal.{Refusal}
 use Rattle.refusal.specs.declared.Refusal.TheVariants.{SheetEnds, UnknownCommand, OutOfTurn}
 use Rattle.model.specs.declared.row.Row.{Row}
+use Rattle.model.specs.declared.variable.Variable.{Variable}
 use Rattle.model.specs.Records.{ModelRecord}
 use Rattle.model.specs.Rows.{open_row}
 use Rattle.model.specs.Tables.{Answer}
@@ -10,7 +11,8 @@ use Rattle.sheet.specs.Reading.{Told}
 use Rattle.sheet.specs.Commands.{Item}
 use Rattle.walk.specs.declared.walked.Walked.{Walked}
 use Rattle.walk.specs.Walks.{first}
-use Rattle.hand.specs.Gathering.{Gathering, enter_answer, after_entry, next_answer, after_next, without_row, without_list}
+use Rattle.hand.specs.Gathering.{Gathering, nothing, enter_answer, after_entry, next_answer, after_next, without_row, without_list}
+use Rattle.hand.specs.ReadBack.{told_gathers}
 use Rattle.orders.specs.Orders as orders
 use Rattle.orders.specs.Orders.{Brought, judge, probe, offer, settle, write, judged, called_dead, has_plan, offered, settled, wrote, refused}
 use Rattle.orders.specs.Runs.{answer, rows_after, left_of}
@@ -71,13 +73,13 @@ entry_turn d s i v = gathers (enter_answer d.variables s.gathered i v) s (after_
 abbrev pub next_turn : State → Turn
 next_turn s = gathers (next_answer s.gathered) s (after_next s.gathered)
 
--- the order that a command gives, if it gives one, with what is lent to it
-abbrev pub order_given : Lent → State → Told → Option Brought
-order_given l s said =
-    cond (said.0 == 0x4a) (Some (judge s.gathered.hand))
-    (cond (said.0 == 0x51) (Some (probe s.gathered.hand l.work_list l.plan))
-    (cond (said.0 == 0x4f) (Some (offer s.gathered.list))
-    (cond (said.0 == 0x54) (Some (settle s.gathered.list))
+-- the order that a command gives, if it gives one, of the row in hand or the list, with what is lent to it
+abbrev pub order_given : Lent → Gathering → Told → Option Brought
+order_given l g said =
+    cond (said.0 == 0x4a) (Some (judge g.hand))
+    (cond (said.0 == 0x51) (Some (probe g.hand l.work_list l.plan))
+    (cond (said.0 == 0x4f) (Some (offer g.list))
+    (cond (said.0 == 0x54) (Some (settle g.list))
     (cond (said.0 == 0x57) (Some (write l.buffer))
     None))))
 
@@ -88,6 +90,28 @@ after_order (probe r work_list plan) g = without_row g
 after_order (offer list) g = without_list g
 after_order (settle list) g = without_list g
 after_order (write buffer) g = g
+
+-- the hand and the list behind a command that gives this order, or none; none where the run ends with the command: an entry or a next command is refused,
+-- or the command does not stand here
+abbrev pub gathered_behind : List Variable → Gathering → Told → Option Brought → Option Gathering
+gathered_behind vs g said (Some o) = Some (after_order o g)
+gathered_behind vs g said None = told_gathers vs g said
+
+-- All orders that commands give, until the run ends; each is lent fresh buffers. They depend on the variables, the hand and the list alone, and not on any
+-- answer.
+abbrev pub orders_from : List Variable → Option Gathering → List Item → List Brought
+orders_from vs None is = []
+orders_from vs (Some g) [] = []
+orders_from vs (Some g) (i ∷ is) = let o = order_given fresh_lent g i.said in option_to_list o ++ orders_from vs (gathered_behind vs g i.said o) is
+
+unfoldable pub orders_given : List Variable → List Item → List Brought
+orders_given vs is = orders_from vs (Some nothing) is
+
+-- whether the run comes to the end of the commands
+abbrev pub comes_to_the_end : List Variable → Option Gathering → List Item → Bool
+comes_to_the_end vs None is = false
+comes_to_the_end vs (Some g) [] = true
+comes_to_the_end vs (Some g) (i ∷ is) = comes_to_the_end vs (gathered_behind vs g i.said (order_given fresh_lent g i.said)) is
 
 -- the bytes that belong to an answer: the moves in front of the buffer for a plan, or the book in front of the other one
 abbrev pub bytes_told : orders.AnswerTold → Lent → List ℕ
@@ -123,9 +147,4 @@ module _ (d : ModelRecord) (dead : Row → Bool) where
 
   -- one command, with what is lent to its order
   abbrev pub command_turn : Lent → State → Told → Turn
-  command_turn l s said = unwrap_or (option_map (order_turn s) (order_given l s said)) (other_turn s said)
-
-  -- all orders that commands give, until the run ends; each is lent fresh buffers
-  unfoldable pub orders_given : State → List Item → List Brought
-  orders_given s [] = []
-  orders_given s (i ∷ is) = let turn = command_turn fresh_lent s i.said in option_to_list (order_given fresh_lent s i.said) ++ unless_stopped turn (orders_given turn.1 is)
+  command_turn l s said = unwrap_or (option_map (order_turn s) (order_given l s.gathered said)) (other_turn s said)
