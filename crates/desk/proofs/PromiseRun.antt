@@ -21,7 +21,7 @@ use Rattle.desk.specs.declared.opening.Opening.{Opening}
 use Rattle.desk.specs.declared.opening.Opening.TheVariants.{Unsealed, Unchosen, Orders}
 use Rattle.desk.specs.Lines.{Said, stop_line, end}
 use Rattle.desk.specs.ModelPart.{stop_at}
-use Rattle.desk.specs.Carrying.{line_of, order_lines}
+use Rattle.desk.specs.Carrying.{line_of, lines_of, opened_lines, order_lines}
 use Rattle.desk.specs.Openings.{opening}
 use Rattle.desk.specs.Promise.{answer_lines, Closes, KeepsThePromise, SheetKeepsThePromise}
 use Rattle.desk.specs.InOrder.{ModelIsSealed}
@@ -97,14 +97,14 @@ module _ (d : ModelRecord) (gone : Row → Bool) where
 
 -- so whatever way the sheet opens
 module _ (sheet : List ℕ) where
-  sheet_keeps : (o : Opening) → DetectorMeansWhatIsTold o → ModelIsSealed (opening_told o) → DetectorIsLawful o → SheetKeepsThePromise sheet (opening_told o)
-  sheet_keeps (Unsealed stop) means sealed laws = tt
-  sheet_keeps (Unchosen m stop) means sealed laws = tt
+  sheet_keeps : (o : Opening) → DetectorMeansWhatIsTold o → ModelIsSealed (opening_told o) → DetectorIsLawful o → SheetKeepsThePromise sheet (opening_told o) (opened_lines sheet (opening_told o))
+  sheet_keeps (Unsealed stop) means sealed laws = refl
+  sheet_keeps (Unchosen m stop) means sealed laws = refl
   sheet_keeps (Orders s place) means sealed laws =
       let d = shipped_model s in
       let gone = told_dead d (detector_told s) in
       let told_laws = subst (Lawful d) (λ i row. means row i) laws in
-      run_keeps d gone sealed told_laws (length sheet) (commands_from sheet place)
+      (_, refl, run_keeps d gone sealed told_laws (length sheet) (commands_from sheet place))
 
-  pub promise_kept : (o : Opening) → opening_told o ≡ opening sheet → DetectorMeansWhatIsTold o → SheetKeepsThePromise sheet (opening sheet)
-  promise_kept o opens means = subst (SheetKeepsThePromise sheet) opens (sheet_keeps o means (every_opening_sealed o) (every_detector_lawful o))
+  pub promise_kept : (o : Opening) → opening_told o ≡ opening sheet → DetectorMeansWhatIsTold o → SheetKeepsThePromise sheet (opening sheet) (lines_of sheet)
+  promise_kept o opens means = subst (λ e. SheetKeepsThePromise sheet e (opened_lines sheet e)) opens (sheet_keeps o means (every_opening_sealed o) (every_detector_lawful o))

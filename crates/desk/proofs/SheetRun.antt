@@ -9,7 +9,7 @@ use Rattle.detectors.specs.Shipping.{shipped_model, shipped_dead, detector_told,
 use Rattle.session.specs.Turns.{State}
 use Rattle.session.specs.Sessions.{fresh_state}
 use Rattle.desk.specs.Lines.{Said, model_line, printed}
-use Rattle.desk.specs.Carrying.{order_lines, opened_lines, printed_of}
+use Rattle.desk.specs.Carrying.{order_lines, opened_lines, lines_of}
 use Rattle.desk.specs.Openings.{orders, opening}
 use Rattle.desk.proofs.OrderRun.{printed_both}
 
@@ -25,7 +25,7 @@ module _ (sheet : List ℕ) (s : Shipped) (place : ℕ) (opens : orders (shipped
         ∙ ap (λ (dead : Row → Bool). order_lines (shipped_model s) dead (length sheet) fresh_state (commands_from sheet place)) same_dead
 
     -- so behind the model's line the lines of the orders are the sheet's
-    pub sheet_printed : (line : Said) → line ≡ model_line (shipped_model s) → (a b c : Option (List ℕ)) → Appends a b (printed (line ∷ [])) → Appends b c (printed (order_lines (shipped_model t) (shipped_dead t) (length sheet) first (commands_from sheet place))) → Appends a c (printed_of sheet)
+    pub sheet_printed : (line : Said) → line ≡ model_line (shipped_model s) → (a b c : Option (List ℕ)) → Appends a b (printed (line ∷ [])) → Appends b c (printed (order_lines (shipped_model t) (shipped_dead t) (length sheet) first (commands_from sheet place))) → Appends a c (printed (lines_of sheet))
     sheet_printed line told a b c before after =
         subst (Appends a c)
         (sym (printed_both (line ∷ []) _) ∙ ap (λ ls. printed ls) (λ i. told i ∷ orders_printed i) ∙ ap (λ o. printed (opened_lines sheet o)) opens)

@@ -39,6 +39,6 @@ opened_lines sheet (unsealed stop) = stop_line stop ∷ []
 opened_lines sheet (unchosen d stop) = model_line d ∷ stop_line stop ∷ []
 opened_lines sheet (orders d detector place) = model_line d ∷ order_lines d (told_dead d detector) (length sheet) fresh_state (commands_from sheet place)
 
--- what is printed of a sheet, as bytes
-abbrev pub printed_of : List ℕ → List ℕ
-printed_of sheet = printed (opened_lines sheet (opening sheet))
+-- the lines of a sheet
+abbrev pub lines_of : List ℕ → List Said
+lines_of sheet = opened_lines sheet (opening sheet)

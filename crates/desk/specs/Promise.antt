@@ -9,10 +9,9 @@ use Rattle.orders.specs.Orders.{Brought, AnswerTold}
 use Rattle.orders.specs.Runs.{answers_run, left_run}
 use Rattle.orders.specs.WholeRuns.{PromiseOverTheWholeRun}
 use Rattle.session.specs.Turns.{bytes_told, comes_to_the_end, lent_to, orders_given}
-use Rattle.session.specs.Sessions.{fresh_state}
-use Rattle.desk.specs.Lines.{Said, end}
+use Rattle.desk.specs.Lines.{Said, end, model_line, stop_line}
 use Rattle.desk.specs.Lines as lines
-use Rattle.desk.specs.Carrying.{answer_line, order_lines}
+use Rattle.desk.specs.Carrying.{answer_line}
 use Rattle.desk.specs.Openings.{Opened, unsealed, unchosen, orders}
 
 -- the lines of answers, one after another, with the orders as they are afterwards
@@ -34,11 +33,11 @@ pub record KeepsThePromise (d : ModelRecord) (dead : Row → Bool) (given : List
   pub a_line_for_each_answer : lines ≡ answer_lines (answers_run d dead [] given) (left_run d dead [] given) ++ last ∷ []
   pub the_run_keeps_it : PromiseOverTheWholeRun d dead given (left_run d dead [] given) (answers_run d dead [] given)
 
--- the lines behind the model's line of a sheet that opens so, where its detector is made
-abbrev pub SheetKeepsThePromise : List ℕ → Opened → Type 0
-SheetKeepsThePromise sheet (unsealed stop) = Unit {0}
-SheetKeepsThePromise sheet (unchosen d stop) = Unit {0}
-SheetKeepsThePromise sheet (orders d detector place) =
-    let dead = told_dead d detector in
+-- The lines of a sheet that opens so: one that tells the stop, or the model's and that; or the model's, and behind it those of the orders, which keep the
+-- promise.
+abbrev pub SheetKeepsThePromise : List ℕ → Opened → List Said → Type 0
+SheetKeepsThePromise sheet (unsealed stop) said = said ≡ stop_line stop ∷ []
+SheetKeepsThePromise sheet (unchosen d stop) said = said ≡ model_line d ∷ stop_line stop ∷ []
+SheetKeepsThePromise sheet (orders d detector place) said =
     let items = commands_from sheet place in
-    KeepsThePromise d dead (orders_given d.variables items) (comes_to_the_end d.variables (Some nothing) items) (order_lines d dead (length sheet) fresh_state items)
+    (behind : List Said) × (said ≡ model_line d ∷ behind) × KeepsThePromise d (told_dead d detector) (orders_given d.variables items) (comes_to_the_end d.variables (Some nothing) items) behind

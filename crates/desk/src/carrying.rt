@@ -5,7 +5,7 @@ ghost use Rattle.sheet.specs.Commands.{commands_from};
 ghost use Rattle.session.specs.Turns.{Lent, stops};
 ghost use Rattle.session.specs.Sessions.{came, detector_of, lent_of, state_of};
 ghost use Rattle.desk.specs.Lines.{line_told, printed};
-ghost use Rattle.desk.specs.Carrying.{line_of, order_lines, printed_of};
+ghost use Rattle.desk.specs.Carrying.{line_of, lines_of, order_lines};
 ghost use Rattle.desk.specs.Openings.{opening};
 ghost use Rattle.desk.specs.Promise.{SheetKeepsThePromise};
 
@@ -20,8 +20,8 @@ use std::io;
 
 /// Carries out a sheet, and writes the lines that it comes to.
 pub fn carry_out<W: io::Write>(heap: Global, sheet: &[u8], out: &mut W) -> io::Result<()>
-    ensures printed { OnOk result (Appends (W.contents out.old) (W.contents out.new) (printed_of sheet.now)) }
-    ensures promise { OnOk result (SheetKeepsThePromise sheet.now (opening sheet.now)) }
+    ensures printed { OnOk result (Appends (W.contents out.old) (W.contents out.new) (printed (lines_of sheet.now))) }
+    ensures promise { OnOk result (SheetKeepsThePromise sheet.now (opening sheet.now) (lines_of sheet.now)) }
 {
     match open_sheet(heap, sheet)? {
         Opening::Unsealed(stop) => write_line(out, Line::from(stop)),
