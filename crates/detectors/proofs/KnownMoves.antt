@@ -13,7 +13,7 @@ use Rattle.lists.proofs.BelowFacts.{all_below_decides}
 use Rattle.detectors.specs.declared.relaxed.fact.Fact.{Fact}
 use Rattle.detectors.specs.Facts.{fact_of, same_fact, given_facts, entry_reached, all_reached}
 use Rattle.detectors.specs.Closure.{try_move}
-use Rattle.detectors.specs.KnownMoves.{ReachedAt, Known, EachKnown, ReachedUpTo}
+use Rattle.detectors.specs.KnownMoves.{ReachedAt, Known, EachKnown, Tried, ReachedUpTo}
 use Rattle.detectors.specs.SameFacts.{fact_self, fact_equal}
 
 abbrev Held : Kept Fact → Fact → Type 0
@@ -65,34 +65,35 @@ module _ (k : Kept Fact) (m : Move) where
   all_known n all known = (all_below_decides here 32).1 (λ v l. known.reached v (omega (arith, l, all)))
 
   -- a move that was done is tried in vain
-  pub tried_before : (n : ℕ) → 32 ≤ n → Known k m n → k ≡ try_move k m
-  tried_before n all known = sym (cond-true (all_reached (arrived k) m.conditions) _ _ (all_known n all known) ∙ kept_as_it_is k (given_facts m.effects) (known.listed all))
+  pub tried_before : (n : ℕ) → 32 ≤ n → Known k m n → Tried k m k n
+  tried_before n all known = record {
+    facts = sym (cond-true (all_reached (arrived k) m.conditions) _ _ (all_known n all known) ∙ kept_as_it_is k (given_facts m.effects) (known.listed all));
+    known = known;
+  }
 
   module _ (n r : ℕ) (known : Known k m n) (upto : ReachedUpTo k m.conditions n r) where
     reached_before : (v : ℕ) → v < r → ReachedAt k m.conditions v
     reached_before v l = ⊎_elim (λ (b : v < n). known.reached v b) (λ (a : n ≤ v). upto.reached v a l) (cases_lt v n)
 
     -- and so is one of which a condition is not reached
-    pub missed : r < 32 → k ≡ try_move k m
-    missed l = sym (cond-false (all_reached (arrived k) m.conditions) _ _ not_all)
+    pub tried_in_vain : r < 32 → Tried k m k r
+    tried_in_vain l = record {
+      facts = sym (cond-false (all_reached (arrived k) m.conditions) _ _ not_all);
+      known = record { reached = reached_before; listed = λ all. absurd (omega (arith, l, all)) };
+    }
       where
         not_all : all_reached (arrived k) m.conditions ≡ false
-        not_all = false_from_ne_true (all_reached (arrived k) m.conditions) (λ all. both_ways (here r) (upto.stops l) ((all_below_decides here 32).0 all r l))
-
-    pub known_missed : r < 32 → Known k m r
-    known_missed l = record { reached = reached_before; listed = λ all. absurd (omega (arith, l, all)) }
-
-    abbrev done : Kept Fact
-    done = keep_all same_fact k (given_facts m.effects)
+        not_all =
+            false_from_ne_true (all_reached (arrived k) m.conditions) (λ all. both_ways (here r) (upto.stops l) ((all_below_decides here 32).0 all r l))
 
     -- where all are reached, the effects are listed
-    pub enabled : 32 ≤ r → try_move k m ≡ done
-    enabled all = cond-true (all_reached (arrived k) m.conditions) _ _ ((all_below_decides here 32).1 (λ v l. reached_before v (omega (arith, l, all))))
-
-    pub known_enabled : 32 ≤ r → Known done m r
-    known_enabled all = record {
-      reached = λ v l. through_all same_fact (λ p. ReachedAt p m.conditions v) (λ p x. reached_on p x v (at m.conditions v)) k (given_facts m.effects) (reached_before v l);
-      listed = λ _ f h. holds_each same_fact fact_self fact_equal k (given_facts m.effects) f h;
+    pub tried_now : (after : Kept Fact) → r ≡ 32 → after ≡ keep_all same_fact k (given_facts m.effects) → Tried k m after r
+    tried_now after all is = record {
+      facts = is ∙ sym (cond-true (all_reached (arrived k) m.conditions) _ _ ((all_below_decides here 32).1 (λ v l. reached_before v (omega (arith, l, all)))));
+      known = subst (λ p. Known p m r) (sym is) (record {
+        reached = λ v l. through_all same_fact (λ p. ReachedAt p m.conditions v) (λ p x. reached_on p x v (at m.conditions v)) k (given_facts m.effects) (reached_before v l);
+        listed = λ _ f h. holds_each same_fact fact_self fact_equal k (given_facts m.effects) f h;
+      });
     }
 
 -- each move, when one is tried

@@ -8,6 +8,7 @@ use Rattle.model.specs.declared.moves.Move.{Move}
 use Rattle.model.specs.Rows.{at}
 use Rattle.detectors.specs.declared.relaxed.fact.Fact.{Fact}
 use Rattle.detectors.specs.Facts.{same_fact, given_facts, entry_reached}
+use Rattle.detectors.specs.Closure.{try_move}
 use Rattle.detectors.specs.SameFacts.{fact_self, fact_equal}
 
 -- the entry of the variable v is open, or its fact is listed
@@ -22,6 +23,11 @@ pub record Known (k : Kept Fact) (m : Move) (n : ℕ) : Type 0 where
 -- so of each move, by the numbers beside them
 abbrev pub EachKnown : Kept Fact → List Move → List ℕ → Type 0
 EachKnown k ms known = (i : ℕ) (m : Move) → slice_get ms i ≡ Some m → Known k m (slice_index_or known i 0)
+
+-- the move was tried, and so much is known of it then
+pub record Tried (k : Kept Fact) (m : Move) (after : Kept Fact) (n : ℕ) : Type 0 where
+  pub facts : after ≡ try_move k m
+  pub known : Known after m n
 
 -- from `known` on, the entries up to the n-th are reached; and the n-th is not, unless these are all
 pub record ReachedUpTo (k : Kept Fact) (row : Row) (known n : ℕ) : Type 0 where

@@ -1,5 +1,5 @@
-//! Opens the sheets that a table names, and prints what the detector of each says of its model's start. How long the detector took
-//! is told on standard error.
+//! Opens the sheets that a table names, and prints what the detector of each says of its model's start. How long the opening took, in
+//! which the detector is made, and how long the verdict, is told on standard error.
 #![tactic(auto)]
 
 use anyhow::anyhow;
@@ -22,16 +22,18 @@ fn read_detector(rt: &HostRuntime, name: &str) -> anyhow::Result<Shipped> {
 
 /// Prints what the detector of a sheet says of the start.
 fn tell_verdict(rt: &HostRuntime, name: &str) -> anyhow::Result<()> {
+    let begun = Instant::now(rt)?;
     let detector = read_detector(rt, name)?;
+    let opening = begun.elapsed(rt)?.as_micros();
     let begun = Instant::now(rt)?;
     let verdict = if calls_dead(&detector, detector.model().start()) {
         "dead"
     } else {
         "silent"
     };
-    let took = begun.elapsed(rt)?.as_micros();
+    let took = begun.elapsed(rt)?.as_nanos();
     println!(rt; "{name} {verdict}")?;
-    eprintln!(rt; "{name} {took} us")?;
+    eprintln!(rt; "{name} opened in {opening} us, verdict in {took} ns")?;
     Ok(())
 }
 

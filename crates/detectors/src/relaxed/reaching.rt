@@ -3,9 +3,9 @@ ghost use Rattle.std.specs.Prelude.{◌≡◌, ◌≤◌, length};
 ghost use Rattle.first_come.specs.Arrivals.{arrived, keep_all};
 ghost use Rattle.model.specs.Drafts.{recorded};
 ghost use Rattle.detectors.specs.Facts.{same_fact, values_of, given_fact, entry_facts, row_facts, given_facts, entry_reached, all_reached};
-ghost use Rattle.detectors.specs.Closure.{try_move, round, closure, goal_missed};
+ghost use Rattle.detectors.specs.Closure.{round, closure, goal_missed};
 ghost use Rattle.detectors.specs.ReachedList.{facts};
-ghost use Rattle.detectors.specs.KnownMoves.{Known, EachKnown, ReachedUpTo};
+ghost use Rattle.detectors.specs.KnownMoves.{Known, EachKnown, Tried, ReachedUpTo};
 
 use super::fact::Fact;
 use first_come::marked::MarkedList;
@@ -98,11 +98,10 @@ impl Reached<'_> {
 
     /// Lists a move's effect facts if its condition facts are all reached, unless that is done, and tells how many of the first
     /// conditions are known to be reached now.
-    #[tactic(auto, using(crate::proofs::KnownMoves::tried_before, crate::proofs::KnownMoves::missed, crate::proofs::KnownMoves::enabled, crate::proofs::KnownMoves::known_missed, crate::proofs::KnownMoves::known_enabled))]
+    #[tactic(auto, using(crate::proofs::KnownMoves::tried_before, crate::proofs::KnownMoves::tried_now))]
     fn try_move(&mut self, m: &Move, known: u8) -> u8
         requires { Known (facts self.old) m.now known }
-        ensures facts { facts self.new ≡ try_move (facts self.old) m.now }
-        ensures known { Known (facts self.new) m.now result }
+        ensures { Tried (facts self.old) m.now (facts self.new) result }
     {
         if known >= 32 {
             return known;
