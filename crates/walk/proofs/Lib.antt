@@ -7,3 +7,4 @@ pub mod Buffers
 pub mod Steps
 pub mod PlanBytes
 pub mod WholeWalks
+pub mod Hinted

@@ -1,5 +1,5 @@
 -- What a walk answers, and what it leaves in the work list and the plan buffer that it was lent.
-use Rattle.std.specs.Prelude.{ℕ, cond, List, ◌++◌, length, drop, min, map, Ok, Err, Result, nat_le}
+use Rattle.std.specs.Prelude.{ℕ, cond, List, length, min, map, Ok, Err, Result, nat_le}
 use Rattle.lists.specs.Fronts.{over}
 use Rattle.refusal.specs.declared.Refusal.{Refusal}
 use Rattle.refusal.specs.declared.Refusal.TheVariants.{WorkListFull, BufferTooShort}

@@ -3,6 +3,7 @@
 
 mod course;
 pub mod ended;
+mod hints;
 mod taking;
 pub mod walked;
 pub mod walking;

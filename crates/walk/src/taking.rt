@@ -1,5 +1,5 @@
 //! The listed states are taken in order, and what their moves lead to is listed.
-ghost use Rattle.std.specs.Prelude.{◌≡◌, ◌||◌, length, option_map};
+ghost use Rattle.std.specs.Prelude.{◌≡◌, ◌||◌, length, option_map, true};
 ghost use Rattle.std.specs.List.{slice_get};
 ghost use Rattle.model.specs.Rows.{contained};
 ghost use Rattle.model.specs.Moves.{progression};
@@ -11,6 +11,7 @@ ghost use Rattle.walk.specs.Walks.{came, walk_at, arrive, try_move, try_moves, t
 ghost use Rattle.walk.specs.WorkLists.{room_of, Made};
 
 use crate::course::Course;
+use crate::hints::Hints;
 use crate::walked::Walked;
 use detector::Detector;
 use first_come::list::FirstCome;
@@ -19,14 +20,18 @@ use model::moves::Move;
 use model::row::Row;
 
 /// Takes the listed states in order, until the walk ends or none is left.
-pub(crate) fn take_states<D: Detector>(list: &mut FirstCome<Walked>, detector: &D) -> Course
+pub(crate) fn take_states<D: Detector>(
+    list: &mut FirstCome<Walked>,
+    hints: &mut Hints,
+    detector: &D,
+) -> Course
     ensures made { Made (contents list.old) (contents list.new) result (take_states (D.carried detector.now) (D.dead detector.now) (room_of (contents list.old)) (room_of (contents list.old)) (walk_at (arrived (contents list.old)) Underway)) }
     ensures lender { lender list.new ≡ lender list.old }
 {
     // By places, since the list grows as they are taken.
     let mut at = 0;
     while let Some(walked) = list.get(at).copied() {
-        match try_moves(list, detector, at, &walked.state) {
+        match try_moves(list, hints, detector, at, &walked.state) {
             Course::Underway => {}
             ended => return ended,
         }
@@ -38,6 +43,7 @@ pub(crate) fn take_states<D: Detector>(list: &mut FirstCome<Walked>, detector: &
 /// Tries every move at the state, by rising number.
 fn try_moves<D: Detector>(
     list: &mut FirstCome<Walked>,
+    hints: &mut Hints,
     detector: &D,
     at: usize,
     state: &Row,
@@ -46,7 +52,7 @@ fn try_moves<D: Detector>(
     ensures lender { lender list.new ≡ lender list.old }
 {
     for number in 0..move_count(detector) {
-        match try_move(list, detector, at, state, number) {
+        match try_move(list, hints, detector, at, state, number) {
             Course::Underway => {}
             ended => return ended,
         }
@@ -65,6 +71,7 @@ fn move_count<D: Detector>(detector: &D) -> u8
 /// Tries the move with that number at the state at a place.
 fn try_move<D: Detector>(
     list: &mut FirstCome<Walked>,
+    hints: &mut Hints,
     detector: &D,
     at: usize,
     state: &Row,
@@ -75,7 +82,7 @@ fn try_move<D: Detector>(
 {
     match move_at(detector, number) {
         Some(step) if step.applicable(state) => {
-            arrive(list, detector, reached_by(step, state, at, number))
+            arrive(list, hints, detector, reached_by(step, state, at, number))
         }
         _ => Course::Underway,
     }
@@ -100,7 +107,12 @@ fn reached_by(step: &Move, state: &Row, at: usize, number: u8) -> Walked
 }
 
 /// Ends the walk at a state that contains the goal; lists any other, unless it is passed over.
-fn arrive<D: Detector>(list: &mut FirstCome<Walked>, detector: &D, reached: Walked) -> Course
+fn arrive<D: Detector>(
+    list: &mut FirstCome<Walked>,
+    hints: &mut Hints,
+    detector: &D,
+    reached: Walked,
+) -> Course
     ensures made { Made (contents list.old) (contents list.new) result (arrive (D.carried detector.now) (D.dead detector.now) (room_of (contents list.old)) (arrived (contents list.old)) reached) }
     ensures lender { lender list.new ≡ lender list.old }
 {
@@ -110,7 +122,7 @@ fn arrive<D: Detector>(list: &mut FirstCome<Walked>, detector: &D, reached: Walk
             by: reached.by,
         };
     }
-    if is_passed_over(list, detector, &reached) {
+    if is_passed_over(list, hints, detector, &reached) {
         return Course::Underway;
     }
     if let Listed::Full = list.list(reached) {
@@ -127,8 +139,40 @@ pub(crate) fn meets_goal<D: Detector>(detector: &D, state: &Row) -> bool
 }
 
 /// Whether the state is listed already or called dead. The list is asked first, since a verdict may be costly.
-fn is_passed_over<D: Detector>(list: &FirstCome<Walked>, detector: &D, reached: &Walked) -> bool
+fn is_passed_over<D: Detector>(
+    list: &FirstCome<Walked>,
+    hints: &mut Hints,
+    detector: &D,
+    reached: &Walked,
+) -> bool
     ensures { result ≡ (has same_state (arrived (contents list.now)) reached.now || D.dead detector.now reached.now.state) }
 {
-    list.holds(reached) || detector.verdict(&reached.state).is_dead()
+    is_listed(list, hints, reached) || detector.verdict(&reached.state).is_dead()
+}
+
+/// Whether the state is listed. It is looked for first where it was found before.
+fn is_listed(list: &FirstCome<Walked>, hints: &mut Hints, reached: &Walked) -> bool
+    ensures { result ≡ has same_state (arrived (contents list.now)) reached.now }
+{
+    if is_listed_at(list, hints.guess(&reached.state), reached) {
+        return true;
+    }
+    match list.place_of(reached) {
+        Some(place) => {
+            hints.note(&reached.state, place);
+            true
+        }
+        None => false,
+    }
+}
+
+/// Whether the state is listed at the place.
+#[tactic(auto, using(crate::proofs::Hinted::listed_where_found))]
+fn is_listed_at(list: &FirstCome<Walked>, place: usize, reached: &Walked) -> bool
+    ensures { result ≡ true → has same_state (arrived (contents list.now)) reached.now ≡ true }
+{
+    match list.get(place) {
+        Some(held) => held == reached,
+        None => false,
+    }
 }

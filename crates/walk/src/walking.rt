@@ -9,6 +9,7 @@ ghost use Rattle.walk.specs.WorkLists.{Rooted, FoundFromListed, room_of};
 
 use crate::course::Course;
 use crate::ended::Ended;
+use crate::hints::Hints;
 use crate::taking::{meets_goal, take_states};
 use crate::walked::Walked;
 use crate::writing::write_plan;
@@ -98,7 +99,8 @@ fn walk_in_list<D: Detector>(
             length: 0,
         });
     }
-    let course = take_states(list, detector);
+    let mut hints = Hints::none();
+    let course = take_states(list, &mut hints, detector);
     tell(list.as_slice(), course, plan)
 }
 
