@@ -1,6 +1,6 @@
 -- Rule 2 over a book is rule 2 over its detector, with the book's rows among those of the set.
 use Rattle.std.proofs.Common.{◌≡◌, Bool, true, false, not, ◌&&◌, ◌||◌, List, ◌++◌, sym, ap, ◌∙◌}
-use Rattle.std.proofs.Math.Bool.{or_assoc, or_comm}
+use Rattle.std.proofs.Math.Bool.{or_assoc}
 use Rattle.std.proofs.lemmas.Bool.{false≢true}
 use Rattle.model.specs.declared.row.Row.{Row}
 use Rattle.model.specs.declared.moves.Move.{Move}
@@ -11,10 +11,6 @@ use Rattle.rules.specs.Rules.{covers, stays_in}
 use Rattle.rules.proofs.Covering.{covers_both}
 use Rattle.book.specs.Verdicts.{book_dead}
 use Rattle.model.proofs.Progressions.{row_progresses}
-
--- either may be asked first
-pub either_first : (a b : Bool) → (a || b) ≡ (b || a)
-either_first = or_comm
 
 -- what the book calls dead, or one of the set covers, is called dead or covered by one of both
 called_or_covered : (q f b c e : Bool) → f ≡ true → e ≡ (b || c) → ((q || (f && b)) || c) ≡ (q || e)

@@ -1,7 +1,6 @@
 -- Rows that keep both rules over a lawful detector are dead, and so a book is lawful.
-use Rattle.std.proofs.Common.{◌≡◌, ℕ, Bool, true, false, ◌&&◌, ◌||◌, List, [], ◌∷◌, ◌++◌, Some, None, Option, sym, refl, ◌∙◌, subst, ⊎_elim, arith}
-use Rattle.std.proofs.lemmas.Bool.{and_parts, and_from, or_cases, or_left, or_right, both_ways, false≢true}
-use Rattle.std.proofs.lemmas.Bool.Decides.{nat_tests}
+use Rattle.std.proofs.Common.{◌≡◌, ℕ, Bool, true, false, ◌&&◌, ◌||◌, List, [], ◌∷◌, ◌++◌, sym, refl, ◌∙◌, subst, ⊎_elim}
+use Rattle.std.proofs.lemmas.Bool.{and_parts, and_from, or_cases, or_left, or_right}
 use Rattle.std.specs.List.{list_all}
 use Rattle.model.specs.declared.row.Row.{Row}
 use Rattle.model.specs.Limits.{move_fits, complete}
@@ -11,9 +10,8 @@ use Rattle.model.specs.Moves.{progression}
 use Rattle.model.specs.Plans.{Plan}
 use Rattle.model.specs.Records.{ModelRecord, Sealed, row_of_model, state_of_model}
 use Rattle.model.specs.RowLaws.{ContainmentIsTransitive}
-use Rattle.model.specs.Rows.{at, keeps, differ, contained, disagree}
-use Rattle.lists.proofs.BelowFacts.{any_below_decides}
-use Rattle.model.proofs.Containment.{contained_at, contained_transitive, contains_no_two}
+use Rattle.model.specs.Rows.{contained}
+use Rattle.model.proofs.Containment.{contained_transitive, contains_no_two}
 use Rattle.lists.proofs.Members.{nth_among, all_among, among_right}
 use Rattle.model.proofs.Progressions.{smaller_applicable, smaller_progression, state_progresses}
 use Rattle.detector.specs.Laws.{Lawful, EqualMeaning, EqualMeaningKeepsTheLaws}

@@ -1,13 +1,13 @@
 -- What a judgement and a probe answer, case by case.
-use Rattle.std.proofs.Common.{◌≡◌, Bool, true, not, cond, List, ℕ, length, is_ok, Ok, Err, Result, refl, sym, ◌∙◌}
+use Rattle.std.proofs.Common.{◌≡◌, Bool, true, not, cond, List, ℕ, length, is_ok, Ok, Err, Result, refl}
 use Rattle.std.proofs.lemmas.Bool.{and_from, not_from_false, cond_both}
 use Rattle.std.specs.Result.{result_and}
 use Rattle.refusal.specs.declared.Refusal.{Refusal}
 use Rattle.model.specs.declared.row.Row.{Row}
 use Rattle.model.specs.Records.{ModelRecord, row_of_model, state_of_model}
 use Rattle.model.specs.Tables.{Answer}
-use Rattle.model.specs.WrongEntries.{row_checked, RowsWithoutWrongEntriesFit}
-use Rattle.model.proofs.WrongEntries.{checked_rows_fit, row_passes}
+use Rattle.model.specs.WrongEntries.{row_checked}
+use Rattle.model.proofs.WrongEntries.{row_passes}
 use Rattle.walk.specs.declared.walked.Walked.{Walked}
 use Rattle.book.specs.Probes.{ProbeTold, called_dead, state_checked, probe_outcome, walk_of, walks, probe_answer}
 use Rattle.book.specs.Verdicts.{book_dead, judge_answer}

@@ -2,7 +2,7 @@
 use Rattle.std.proofs.Common.{◌≡◌, ℕ, suc, ◌+◌, ◌-◌, ◌<◌, ◌≤◌, List, [], ◌∷◌, ◌++◌, drop, length, get_or, ap, ◌∙◌, sym, refl, arith, append_assoc, length-append, Some, None, Option, is_some, cond, ◌*◌}
 use Rattle.std.specs.List.{flat_map, range_with_len, count_by, filter}
 use Rattle.std.proofs.lemmas.List.Sums.{length-filter, sum_by-cons}
-use Rattle.std.proofs.lemmas.List.{drop_more, drop_all}
+use Rattle.std.proofs.lemmas.List.{drop_more}
 use Rattle.model.specs.declared.row.Row.{Row}
 use Rattle.model.specs.Rows.{at}
 use Rattle.book.specs.Written.{entry_written, entries_written, row_written, rows_written}

@@ -1,21 +1,17 @@
 -- The entries of a row are taken one by one.
-use Rattle.std.proofs.Common.{◌≡◌, nat_lt, ◌⊎◌, ℕ, ◌<◌, ◌≤◌, true, false, is_ok, is_some, List, length, Some, None, Option, Ok, Err, sym, ap, refl, ◌∙◌, ⊎_elim, arith}
+use Rattle.std.proofs.Common.{◌≡◌, ◌⊎◌, ℕ, ◌<◌, ◌≤◌, true, false, is_some, List, length, None, Ok, Err, sym, ap, ◌∙◌, ⊎_elim, arith}
 use Rattle.std.specs.Result.{result_and}
 use Rattle.std.proofs.lemmas.Bool.{both_ways, cases_lt, false≢true}
-use Rattle.std.proofs.lemmas.Bool.Decides.{nat_tests, same_from_decides}
+use Rattle.std.proofs.lemmas.Bool.Decides.{same_from_decides}
 use Rattle.std.proofs.lemmas.List.{get_or_past, get_or-replicate}
 use Rattle.refusal.specs.declared.Refusal.TheVariants.{OpenEntry}
 use Rattle.model.specs.declared.row.Row.{Row}
 use Rattle.model.specs.declared.variable.Variable.{Variable}
-use Rattle.model.specs.Limits.{no_variable, size_at, entry_fits, row_fits, complete}
-use Rattle.model.specs.Records.{ModelRecord, row_of_model}
+use Rattle.model.specs.Limits.{no_variable, size_at, row_fits, complete}
 use Rattle.model.specs.Rows.{at, open_row}
 use Rattle.model.specs.SameRows.{row_ext}
-use Rattle.model.specs.Tables.{Answer}
-use Rattle.model.specs.WrongEntries.{row_checked, RowsWithoutWrongEntriesFit}
 use Rattle.lists.proofs.BelowFacts.{all_below_decides}
 use Rattle.model.proofs.Progressions.{fits_at, entry_fits_none}
-use Rattle.model.proofs.WrongEntries.{checked_rows_fit}
 use Rattle.book.specs.Probes.{given_checked}
 
 -- The entries of the variables below n are given, and are taken into the state, which gives nothing else.

@@ -10,7 +10,6 @@ use model::sealed::Model;
 use refusal::Refusal;
 
 /// The row as a state of the model, or why it is none. It is the same row, with its entries taken one by one, so that an open one is met.
-#[tactic(auto, using(crate::proofs::TakenEntries::row_fits_if_checked))]
 pub(crate) fn take_state(model: &Model, row: &Row) -> Result<Row, Refusal>
     ensures { result ≡ result_and (state_checked (recorded model.now).variables row.now) (Ok row.now) }
 {

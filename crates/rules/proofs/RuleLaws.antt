@@ -1,24 +1,19 @@
 -- The two rules, as tests and in words.
-use Rattle.std.proofs.Common.{◌≡◌, ℕ, Bool, true, false, not, ◌&&◌, ◌||◌, List, ◌++◌, Some, None, Option, refl, ap, ◌∙◌, inl, inr, ⊎_elim}
-use Rattle.std.proofs.Math.Bool.{or_assoc, or_comm}
+use Rattle.std.proofs.Common.{◌≡◌, Bool, true, false, not, ◌&&◌, ◌||◌, List, refl, inl, inr, ⊎_elim}
+use Rattle.std.proofs.Math.Bool.{or_comm}
 use Rattle.std.proofs.lemmas.Bool.{and_parts, and_from, or_cases, or_left, or_right, false≢true}
 use Rattle.model.specs.declared.row.Row.{Row}
 use Rattle.model.specs.declared.moves.Move.{Move}
-use Rattle.model.specs.Rows.{at}
-use Rattle.model.specs.Moves.{or_else, next_entry, applicable, progression}
+use Rattle.model.specs.Moves.{applicable, progression}
 use Rattle.lists.specs.Members.{Among, Within}
-use Rattle.model.specs.Limits.{size_at, entry_fits, row_fits, move_fits}
-use Rattle.model.specs.Records.{ModelRecord, Sealed, row_of_model}
-use Rattle.lists.proofs.BelowFacts.{all_below_decides}
+use Rattle.model.specs.Records.{ModelRecord}
 use Rattle.lists.proofs.Members.{all_among, all_from}
-use Rattle.model.proofs.Progressions.{fits_at}
-use Rattle.model.proofs.RowFacts.{at_row_of}
 use Rattle.rules.specs.Rules.{covers, keeps_rule_1, stays_in, keeps_rule_2, keeps_rules, KeepsBothRules}
-use Rattle.rules.proofs.Covering.{covering, covered, covered_by_more, covers_both}
+use Rattle.rules.proofs.Covering.{covering, covered, covered_by_more}
 
--- both lists of a set may be asked before the detector
-pub sets_first : (xs ys : List Row) (t : Row) (gone : Bool) → (gone || covers (xs ++ ys) t) ≡ (covers xs t || (covers ys t || gone))
-sets_first xs ys t gone = or_comm gone (covers (xs ++ ys) t) ∙ ap (λ b. b || gone) (covers_both xs ys t) ∙ or_assoc (covers xs t) (covers ys t) gone
+-- of the dead set and the rows of a set either may be asked first
+pub either_first : (gone held : Bool) → (gone || held) ≡ (held || gone)
+either_first gone held = or_comm gone held
 
 not_or : (a b : Bool) → a ≡ true → (not a || b) ≡ true → b ≡ true
 not_or true b e h = h

@@ -1,6 +1,6 @@
 //! The two rules that bind a set of rows.
-ghost use Rattle.std.specs.Prelude.{◌≡◌, ◌++◌};
-ghost use Rattle.rules.specs.Rules.{covers, keeps_rule_1, keeps_rule_2, stays_in};
+ghost use Rattle.std.specs.Prelude.{◌≡◌};
+ghost use Rattle.rules.specs.Rules.{covers, keeps_rule_1, stays_in};
 ghost use Rattle.lists.specs.Searches.{first_failing, first_failing_pair};
 
 use detector::Detector;
@@ -15,48 +15,16 @@ pub fn covers(set: &[Row], row: &Row) -> bool
 }
 
 /// Whether the row to which the move leads is called dead or contains a row of the set; also true of a move that is not applicable.
+#[tactic(auto, using(crate::proofs::RuleLaws::either_first))]
 fn stays_in<D: Detector>(detector: &D, set: &[Row], row: &Row, step: &Move) -> bool
     ensures { result ≡ stays_in (D.dead detector.now) set.now row.now step.now }
-{
-    stays_in_both(detector, set, &[], row, step)
-}
-
-/// The same of the set that two lists make up.
-#[tactic(auto, using(crate::proofs::RuleLaws::sets_first))]
-fn stays_in_both<D: Detector>(
-    detector: &D,
-    set: &[Row],
-    more: &[Row],
-    row: &Row,
-    step: &Move,
-) -> bool
-    ensures { result ≡ stays_in (D.dead detector.now) (set.now ++ more.now) row.now step.now }
 {
     if !step.applicable(row) {
         return true;
     }
     let next = step.progression(row);
     // The set first: a verdict may cost much more.
-    covers(set, &next) || covers(more, &next) || detector.verdict(&next).is_dead()
-}
-
-/// Whether the row keeps rule 2 in the set.
-pub fn keeps_rule_2<D: Detector>(detector: &D, set: &[Row], row: &Row) -> bool
-    ensures { result ≡ keeps_rule_2 (D.carried detector.now) (D.dead detector.now) set.now row.now }
-{
-    keeps_rule_2_in_both(detector, set, &[], row)
-}
-
-/// Whether the row keeps rule 2 in the set that two lists make up.
-#[tactic(auto, unfolding(crate::specs::Rules::keeps_rule_2))]
-pub fn keeps_rule_2_in_both<D: Detector>(detector: &D, set: &[Row], more: &[Row], row: &Row) -> bool
-    ensures { result ≡ keeps_rule_2 (D.carried detector.now) (D.dead detector.now) (set.now ++ more.now) row.now }
-{
-    detector
-        .model()
-        .moves()
-        .iter()
-        .all(|step| stays_in_both(detector, set, more, row, step))
+    covers(set, &next) || detector.verdict(&next).is_dead()
 }
 
 /// The lowest row of the list that breaks rule 1.

@@ -241,7 +241,7 @@ impl<D: Detector> Book<D> {
     }
 
     /// Whether the detector calls the row dead, or one of the book's rows is contained in it.
-    #[tactic(auto, using(crate::proofs::InTheBook::either_first))]
+    #[tactic(auto, using(rules::proofs::RuleLaws::either_first))]
     fn calls_dead(&self, row: &Row) -> bool
         ensures { result ≡ book_dead (D.carried (book_detector self.now)) (D.dead (book_detector self.now)) (book_rows self.now) row.now }
     {
