@@ -7,7 +7,7 @@ use Rattle.detectors.specs.Shipping.{told_dead}
 use Rattle.orders.specs.Orders.{AnswerTold, judged, called_dead, has_plan, offered, settled, wrote, refused as turned_down}
 use Rattle.session.specs.Turns.{State, fresh_lent, Came, quiet, answered, stopped, command_turn, unless_stopped}
 use Rattle.session.specs.Sessions.{fresh_state}
-use Rattle.desk.specs.Lines.{Said, judge, probe_dead, probe_plan, offer, settle, write, refused, end, model_line, stop_line, printed}
+use Rattle.desk.specs.Lines.{Said, judge, probe_dead, probe_plan, offer, settle, write, refused, end, model_line, stop_line}
 use Rattle.desk.specs.ModelPart.{stop_at}
 use Rattle.desk.specs.Openings.{Opened, unsealed, unchosen, orders, opening}
 

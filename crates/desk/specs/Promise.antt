@@ -1,5 +1,5 @@
 -- What the lines of a sheet promise.
-use Rattle.std.specs.Prelude.{◌≡◌, ℕ, Bool, true, false, List, [], ◌∷◌, ◌++◌, length, Some}
+use Rattle.std.specs.Prelude.{◌≡◌, ℕ, Bool, true, false, List, [], ◌∷◌, ◌++◌, Some}
 use Rattle.model.specs.declared.row.Row.{Row}
 use Rattle.model.specs.Records.{ModelRecord}
 use Rattle.sheet.specs.Commands.{commands_from}

@@ -5,7 +5,6 @@ pub mod Affected
 pub mod Regaining
 pub mod LearnLaws
 pub mod EntriesTold
-pub mod Fronts
 pub mod Covering
 pub mod StandingFacts
 pub mod Growing

@@ -126,7 +126,7 @@ fn learn_front<D: Detector>(
 }
 
 /// The first 256 of the list at most.
-#[tactic(auto, using(crate::proofs::Fronts::front_taken))]
+#[tactic(auto, using(lists::proofs::Fronts::front_taken))]
 fn first_256(listed: &[Walked]) -> &[Walked]
     ensures first { result.now ≡ take 256 listed.now }
     ensures few { length result.now ≤ 256 }

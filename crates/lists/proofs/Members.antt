@@ -1,7 +1,7 @@
 -- The elements of lists, and tests that all of them pass, or one.
-use Rattle.std.proofs.Common.{◌≡◌, ℕ, zero, suc, ◌<◌, ◌≤◌, Bool, true, false, ◌⊎◌, ◌&&◌, ◌||◌, cond, List, [], ◌∷◌, ◌++◌, length, Some, sym, refl, ap, ◌∙◌, subst, inl, inr, ⊎_elim, arith}
+use Rattle.std.proofs.Common.{◌≡◌, ℕ, zero, suc, ◌<◌, ◌≤◌, Bool, true, false, ◌⊎◌, ◌&&◌, cond, List, [], ◌∷◌, ◌++◌, length, Some, sym, refl, ap, ◌∙◌, subst, inl, inr, ⊎_elim, arith}
 use Rattle.std.proofs.lemmas.Bool.{and_parts, and_from, and_cases, or_cases, or_left, or_right, cond_both, false≢true, true≢false, both_ways}
-use Rattle.std.proofs.lemmas.List.Folds.{list_all-append, list_any-append}
+use Rattle.std.proofs.lemmas.List.Folds.{list_all-append}
 use Rattle.std.specs.List.{list_all, list_any, filter, slice_get}
 use Rattle.lists.specs.Members.{Among}
 
@@ -33,7 +33,6 @@ module _ {X : Type 0} where
   among_cases [] ys x a = inr a
   among_cases (y ∷ xs) ys x a =
       ⊎_elim (λ e. inl (inl e)) (λ b. ⊎_elim (λ c. inl (inr c)) inr (among_cases xs ys x b)) a
-
 
 -- tests of the elements; that what holds of all of them holds of each is `all_among`
 module _ {X : Type 0} (p : X → Bool) where

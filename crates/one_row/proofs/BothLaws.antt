@@ -1,18 +1,16 @@
 -- The detector of one row keeps both laws.
-use Rattle.std.proofs.Common.{◌≡◌, ℕ, true, false, List, [], ◌∷◌, Some, None, Option, subst, ⊎_elim, arith}
-use Rattle.std.proofs.lemmas.Bool.{and_parts, and_from, or_cases, not-true, both_ways, false≢true}
-use Rattle.std.proofs.lemmas.Bool.Decides.{nat_tests}
+use Rattle.std.proofs.Common.{◌≡◌, ℕ, true, List, [], ◌∷◌, subst, ⊎_elim}
+use Rattle.std.proofs.lemmas.Bool.{and_parts, and_from, or_cases, not-true, both_ways}
 use Rattle.model.specs.declared.row.Row.{Row}
 use Rattle.model.specs.declared.moves.Move.{Move}
 use Rattle.model.specs.RowLaws.{ContainmentIsTransitive}
 use Rattle.model.specs.MoveLaws.{SmallerRowKeepsMovesApplicable, SmallerRowHasSmallerProgression}
-use Rattle.model.specs.Rows.{at, keeps, differ, contained, disagree}
+use Rattle.model.specs.Rows.{contained, disagree}
 use Rattle.model.specs.Moves.{applicable, progression}
 use Rattle.model.specs.Plans.{Leads}
 use Rattle.lists.specs.Members.{Among}
 use Rattle.model.specs.Records.{ModelRecord, row_of_model}
-use Rattle.lists.proofs.BelowFacts.{any_below_decides}
-use Rattle.model.proofs.Containment.{contained_at, contained_transitive, contains_no_two}
+use Rattle.model.proofs.Containment.{contained_transitive, contains_no_two}
 use Rattle.lists.proofs.Members.{nth_among, all_among}
 use Rattle.model.proofs.Progressions.{smaller_applicable, smaller_progression}
 use Rattle.detector.specs.Laws.{Lawful}

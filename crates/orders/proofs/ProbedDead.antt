@@ -1,9 +1,8 @@
 -- A state of which a probe answers dead is called dead by the book that the probe leaves.
-use Rattle.std.proofs.Common.{◌≡◌, ℕ, Bool, true, false, ◌&&◌, cond, List, [], ◌∷◌, ◌++◌, length, Result, nat_le, refl, sym, ap, ◌∙◌, subst, inl, inr, ⊎_elim}
+use Rattle.std.proofs.Common.{◌≡◌, ℕ, Bool, true, false, ◌&&◌, cond, List, ◌++◌, length, Result, nat_le, refl, sym, ap, ◌∙◌, subst}
 use Rattle.std.proofs.lemmas.Bool.{and_parts, and_from, or_right, false≢true, cond_both, cond-true, cond-false}
 use Rattle.refusal.specs.declared.Refusal.{Refusal}
 use Rattle.model.specs.declared.row.Row.{Row}
-use Rattle.model.specs.Rows.{contained}
 use Rattle.model.specs.Limits.{complete}
 use Rattle.lists.specs.Members.{Among}
 use Rattle.model.specs.Records.{ModelRecord, row_of_model, state_of_model}
@@ -31,7 +30,7 @@ module _ (d : ModelRecord) (gone : Row → Bool) (rows : List Row) where
   -- rows with the parts cover it
   covered_afterwards : (states parts : List Row) (s : Row) → PartsOf states parts → Among states s → covers (rows ++ fresh rows parts) s ≡ true
   covered_afterwards states parts s h a =
-      let part = part_of_state states parts s h a in
+      let part = part_of_state states parts h s a in
       covered (rows ++ fresh rows parts) s part.0 (fresh_held rows parts part.0 part.1) part.2
 
   module _ (r : Row) where

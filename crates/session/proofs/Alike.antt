@@ -1,6 +1,5 @@
 -- What comes of an order is a matter of how long the buffers are that are lent to it, and not of what lies in them.
-use Rattle.std.proofs.Common.{◌≡◌, ℕ, Bool, true, false, cond, not, ◌&&◌, List, [], length, take, drop, is_ok, Ok, Err, Result, nat_le, refl, sym, ap, ◌∙◌}
-use Rattle.std.proofs.Math.Seq.{take-append_seam}
+use Rattle.std.proofs.Common.{◌≡◌, ℕ, Bool, true, false, cond, not, ◌&&◌, List, [], length, is_ok, Ok, Err, Result, nat_le, refl, sym, ap, ◌∙◌}
 use Rattle.std.proofs.lemmas.List.{length-replicate}
 use Rattle.std.specs.Prelude.{min, replicate, Option, Some, None, option_map, unwrap_or, ◌==◌}
 use Rattle.std.specs.Result.{result_and}

@@ -3,6 +3,5 @@ pub mod AllMoves
 pub mod Tables
 pub mod Going
 pub mod Marks
-pub mod Fronts
 pub mod Picked
 pub mod Largest

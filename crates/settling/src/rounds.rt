@@ -143,7 +143,7 @@ fn settle_few<B: Detector>(book: &B, list: &[Row]) -> Sifted
 }
 
 /// The first 256 of the list at most.
-#[tactic(auto, using(crate::proofs::Fronts::front_taken))]
+#[tactic(auto, using(lists::proofs::Fronts::front_taken))]
 fn first_256(list: &[Row]) -> &[Row]
     ensures first { result.now ≡ take 256 list.now }
     ensures few { length result.now ≤ 256 }

@@ -5,9 +5,9 @@
 mod batch;
 mod before;
 mod lines;
-mod lists;
 mod models;
 mod parts;
+mod row_lists;
 mod rows;
 mod showing;
 mod sketch;

@@ -16,11 +16,11 @@ fn agrees(rt: &HostRuntime, name: &str) -> anyhow::Result<bool> {
 
 fn run(rt: &HostRuntime) -> anyhow::Result<()> {
     let table = fs::read_to_string(rt, "table.txt")?;
-    let mut differing = 0;
+    let mut differing: usize = 0;
     for name in table.lines() {
         if !agrees(rt, name)? {
             println!(rt; "{name} differs")?;
-            differing += 1;
+            differing = differing.saturating_add(1);
         }
     }
     let sheets = table.lines().count();

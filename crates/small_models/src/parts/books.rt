@@ -1,8 +1,8 @@
 //! Several orders on one book, and books over other detectors.
 
 use crate::batch::Batch;
-use crate::lists::four_rows;
 use crate::models::{key, lane, lane_over, nothing};
+use crate::row_lists::four_rows;
 use crate::rows::{at_dock, at_lane, gate_and_key, position, row_of};
 use crate::showing::{headline, show};
 use book::book::Book;

@@ -1,8 +1,8 @@
 //! Offers that break a rule, and books that are full.
 
 use crate::batch::Batch;
-use crate::lists::first_switch_on;
 use crate::models::{key, lane, nine_switches};
+use crate::row_lists::first_switch_on;
 use crate::rows::{at_dock, at_lane, dark, gate_and_key, position, row_of};
 use crate::showing::{headline, show};
 use model::row::Row;

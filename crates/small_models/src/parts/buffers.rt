@@ -1,8 +1,8 @@
 //! Buffers that are too short, just long enough, and longer than needed.
 
 use crate::batch::Batch;
-use crate::lists::four_rows;
 use crate::models::{free, lane};
+use crate::row_lists::four_rows;
 use crate::rows::{at_lane, position};
 use crate::showing::{headline, show};
 

@@ -1,8 +1,8 @@
 //! Rows with wrong entries, and rows that are no states.
 
 use crate::batch::Batch;
-use crate::lists::four_rows;
 use crate::models::{lane, nothing};
+use crate::row_lists::four_rows;
 use crate::rows::{at_dock, at_lane, position, row_of};
 use crate::showing::{headline, show};
 use model::row::Row;

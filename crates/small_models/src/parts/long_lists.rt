@@ -1,8 +1,8 @@
 //! Lists that are too long, and lists that are just not.
 
 use crate::batch::Batch;
-use crate::lists::{all_but, over_and_over};
 use crate::models::lane;
+use crate::row_lists::{all_but, over_and_over};
 use crate::rows::{at_lane, row_of};
 use crate::showing::{headline, show};
 

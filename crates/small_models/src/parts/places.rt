@@ -1,8 +1,8 @@
 //! Work lists that are too short, just long enough, and longer than a walk uses.
 
 use crate::batch::Batch;
-use crate::lists::four_rows;
 use crate::models::{eight_switches, free, lane, nine_switches, nothing};
+use crate::row_lists::four_rows;
 use crate::rows::{dark, position};
 use crate::showing::{headline, show};
 use model::row::Row;
