@@ -4,7 +4,8 @@ ghost use Rattle.std.specs.Io.KnownBytes.{Appends};
 ghost use Rattle.sheet.specs.Commands.{commands_from};
 ghost use Rattle.session.specs.Turns.{Lent, stops};
 ghost use Rattle.session.specs.Sessions.{came, detector_of, lent_of, state_of};
-ghost use Rattle.desk.specs.Lines.{line_told, printed};
+ghost use Rattle.desk.specs.Lines.{line_told, model_line, printed};
+ghost use Rattle.detectors.specs.Shipping.{shipped_model};
 ghost use Rattle.desk.specs.Carrying.{line_of, lines_of, order_lines};
 ghost use Rattle.desk.specs.Openings.{opening};
 ghost use Rattle.desk.specs.Promise.{SheetKeepsThePromise};
@@ -12,6 +13,7 @@ ghost use Rattle.desk.specs.Promise.{SheetKeepsThePromise};
 use crate::lines::Line;
 use crate::opening::{Opening, Stop, open_sheet};
 use detector::Detector;
+use detectors::shipped::Shipped;
 use session::outcome::Outcome;
 use session::session::Session;
 use sheet::command_at;
@@ -30,11 +32,18 @@ pub fn carry_out<W: io::Write>(heap: Global, sheet: &[u8], out: &mut W) -> io::R
             write_line(out, Line::from(stop))
         }
         Opening::Orders { detector, orders } => {
-            write_line(out, Line::from(detector.model()))?;
+            write_carried(&detector, out)?;
             let mut session = Session::open(heap, detector)?;
             carry_out_orders(&mut session, sheet, orders, out)
         }
     }
+}
+
+/// Writes the line of the model that the detector of a sheet carries.
+fn write_carried<W: io::Write>(detector: &Shipped, out: &mut W) -> io::Result<()>
+    ensures { OnOk result (Appends (W.contents out.old) (W.contents out.new) (printed (model_line (shipped_model detector.now) ∷ []))) }
+{
+    write_line(out, Line::from(detector.model()))
 }
 
 /// Carries out the commands of the sheet from a place on, and writes the lines that they come to.

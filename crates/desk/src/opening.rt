@@ -1,9 +1,11 @@
 //! The opening of a sheet: its model and its detector.
 ghost use Rattle.std.specs.Prelude.{◌≡◌, length, IfOk, Ok};
-ghost use Rattle.sheet.specs.Commands.{commands};
+ghost use Rattle.sheet.specs.Commands.{commands, item_of};
 ghost use Rattle.desk.specs.InOrder.{ModelIsSealed, StandsInOrder};
 ghost use Rattle.desk.specs.ModelPart.{stop_at};
-ghost use Rattle.desk.specs.Openings.{opened_by, opening};
+ghost use Rattle.desk.specs.Openings.{behind_model, opened_by, opening};
+ghost use Rattle.desk.specs.DetectorPart.{chosen_at};
+ghost use Rattle.detectors.specs.Shipping.{made_told, model_told, MadeMeansWhatIsTold};
 ghost use Rattle.desk.specs.Told.{DetectorDecides, DetectorIsLawful, DetectorMeansWhatIsTold, model_part_told, opening_told};
 
 use crate::detector_part::make_detector;
@@ -14,7 +16,7 @@ use detectors::unmade::Unmade;
 use model::in_hand::NamingVariables;
 use model::sealed::Model;
 use refusal::Refusal;
-use sheet::command_at;
+use sheet::{Placed, command_at};
 use std::alloc::{AllocError, Global};
 
 /// The longest sheet, in bytes.
@@ -87,14 +89,23 @@ fn open_behind(heap: Global, sealed: SealedAt, sheet: &[u8]) -> Result<Opening, 
         let stop = Stop::at(sheet.len(), next, Refusal::SheetEnds);
         return Ok(Opening::Unchosen { model, stop });
     };
-    match make_detector(heap, model, found.command)? {
-        Ok(detector) => Ok(Opening::Orders {
+    let made = make_detector(heap, model, found.command)?;
+    Ok(open_made(made, &found, sheet.len()))
+}
+
+/// A sheet with what the command found behind its model made: the detector, behind which its orders begin, or a refusal.
+fn open_made(made: Result<Shipped, Unmade>, found: &Placed, end: usize) -> Opening
+    ensures told { opening_told result ≡ behind_model (model_told made) (chosen_at end (item_of found.now) (made_told made)) }
+    ensures meaning { MadeMeansWhatIsTold made → DetectorMeansWhatIsTold result }
+{
+    match made {
+        Ok(detector) => Opening::Orders {
             detector,
             orders: found.next,
-        }),
+        },
         Err(Unmade { model, refusal }) => {
-            let stop = Stop::at(sheet.len(), found.place, refusal);
-            Ok(Opening::Unchosen { model, stop })
+            let stop = Stop::at(end, found.place, refusal);
+            Opening::Unchosen { model, stop }
         }
     }
 }

@@ -12,7 +12,7 @@ use Rattle.detectors.specs.declared.pattern.cut.Cut.{Cut}
 use Rattle.detectors.specs.declared.pattern.variables.Variables.{Variables}
 use Rattle.detectors.specs.Cuts.{cut_of, cut_move}
 use Rattle.detectors.specs.CutWalk.{cut_off}
-use Rattle.detectors.specs.PatternMeaning.{product_of_sizes, gives, pattern_dead, PatternDecides}
+use Rattle.detectors.specs.PatternMeaning.{product_of_sizes, gives, pattern_dead, PatternDecides, PatternDecidesForEveryModel}
 use Rattle.detectors.proofs.CutLaws.{cut_progression, cut_applicable, cut_contained, same_cuts}
 use Rattle.detectors.proofs.CutRows.{CutReached, first_reached, onward_reached, goal_not_reached}
 use Rattle.detectors.proofs.CutReach.{cut_off_decides}
@@ -62,3 +62,7 @@ module _ (d : ModelRecord) (x : Variables) where
         goal_not_reached x d s ((pattern_decides ok small s).0 dead).2 (cut_of x plan.0)
         (reached_along s ns s plan.0 plan.1 (first_reached x d s)) (cut_contained x d.goal plan.0 plan.2);
   }
+
+pub pattern_decides_for_every_model : PatternDecidesForEveryModel
+unfolding PatternDecidesForEveryModel
+pattern_decides_for_every_model = pattern_decides

@@ -14,7 +14,7 @@ use Rattle.model.specs.Rows.{at}
 use Rattle.detectors.specs.declared.relaxed.fact.Fact.{Fact}
 use Rattle.detectors.specs.Facts.{fact_of, same_fact, fact_number, row_facts, given_facts, all_reached}
 use Rattle.detectors.specs.Closure.{try_move, round, rounds, closure, no_facts, first_facts, goal_missed}
-use Rattle.detectors.specs.ReachedFacts.{Reached, at_first, added, SomeGoalFactNotReached, RelaxedDecides}
+use Rattle.detectors.specs.ReachedFacts.{Reached, at_first, added, SomeGoalFactNotReached, RelaxedDecides, RelaxedDecidesForEveryModel}
 use Rattle.detectors.specs.FactMarking.{numbers_apart}
 use Rattle.detectors.specs.SameFacts.{fact_self, fact_equal, same_fact_equivalence}
 use Rattle.detectors.proofs.FactsOfRows.{given_fits, given_in, in_given, row_in, in_row, all_reached_each, all_reached_from, all_reached_fails}
@@ -145,3 +145,7 @@ relaxed_decides d sealed row =
       (λ dead. ((parts dead).0, (missed_decides d row sealed (parts dead).0).0 (parts dead).1)),
       (λ some. and_from (row_of_model d row) (goal_missed d row) some.0 ((missed_decides d row sealed some.0).1 some.1)),
     )
+
+pub relaxed_decides_for_every_model : RelaxedDecidesForEveryModel
+unfolding RelaxedDecidesForEveryModel
+relaxed_decides_for_every_model = relaxed_decides

@@ -1,10 +1,10 @@
 -- The rows that a pattern calls dead.
-use Rattle.std.specs.Prelude.{◌≡◌, ℕ, ◌*◌, Bool, true, ◌&&◌, List, map, is_some, Some, None, Decides, Option}
+use Rattle.std.specs.Prelude.{◌≡◌, ◌≤◌, ℕ, ◌*◌, Bool, true, ◌&&◌, List, map, is_some, Some, None, Decides, Option}
 use Rattle.model.specs.declared.row.Row.{Row}
 use Rattle.model.specs.declared.variable.Variable.{Variable}
 use Rattle.model.specs.Rows.{at}
 use Rattle.model.specs.Limits.{size_at}
-use Rattle.model.specs.Records.{ModelRecord, row_of_model}
+use Rattle.model.specs.Records.{ModelRecord, row_of_model, Sealed}
 use Rattle.detectors.specs.declared.pattern.variables.Variables.{Variables}
 use Rattle.detectors.specs.Cuts.{cut_of, cut_move}
 use Rattle.detectors.specs.CutWalk.{cut_off}
@@ -35,3 +35,7 @@ pattern_dead d x row = row_of_model d row && (gives row x && cut_off (map (cut_m
 -- that is reached contains the cut goal.
 unfoldable pub PatternDecides : ModelRecord → Variables → Type 0
 PatternDecides d x = (row : Row) → Decides (pattern_dead d x row) ((row_of_model d row ≡ true) × (gives row x ≡ true) × NoCutRowContainsTheGoal d x row)
+
+-- so of every sealed model and any variables of few values together, whether a pattern is over them or not
+unfoldable pub PatternDecidesForEveryModel : Type 0
+PatternDecidesForEveryModel = (d : ModelRecord) (x : Variables) → Sealed d → product_of_sizes d.variables x ≤ 512 → PatternDecides d x

@@ -4,7 +4,7 @@ use Rattle.model.specs.declared.row.Row.{Row}
 use Rattle.model.specs.declared.moves.Move.{Move}
 use Rattle.model.specs.Limits.{size_at}
 use Rattle.lists.specs.Members.{Among}
-use Rattle.model.specs.Records.{ModelRecord, row_of_model}
+use Rattle.model.specs.Records.{ModelRecord, row_of_model, Sealed}
 use Rattle.model.specs.Rows.{at}
 use Rattle.detectors.specs.Closure.{relaxed_dead}
 
@@ -26,3 +26,7 @@ SomeGoalFactNotReached d row = (v : ℕ) × (x : ℕ) × (at d.goal v ≡ Some x
 -- what the relaxed dead set says of every row: dead exactly if it is a row of the model from which some goal fact is not reached
 unfoldable pub RelaxedDecides : ModelRecord → Type 0
 RelaxedDecides d = (row : Row) → Decides (relaxed_dead d row) ((row_of_model d row ≡ true) × SomeGoalFactNotReached d row)
+
+-- so of every sealed model, whether a detector was made of it or not
+unfoldable pub RelaxedDecidesForEveryModel : Type 0
+RelaxedDecidesForEveryModel = (d : ModelRecord) → Sealed d → RelaxedDecides d

@@ -3,7 +3,7 @@ ghost use Rattle.std.specs.Prelude.{◌≡◌};
 ghost use Rattle.detector.specs.Laws.{Lawful};
 ghost use Rattle.model.specs.Drafts.{recorded};
 ghost use Rattle.detectors.specs.Closure.{relaxed_dead};
-ghost use Rattle.detectors.specs.ReachedFacts.{RelaxedDecides};
+ghost use Rattle.detectors.specs.ReachedFacts.{RelaxedDecides, RelaxedDecidesForEveryModel};
 ghost use Rattle.detectors.specs.RelaxedMeaning.{relaxed_model};
 ghost use Rattle.detectors.specs.WorkedVerdicts.{WorkedRelaxedVerdicts};
 ghost use Rattle.std.proofs.lemmas.Bool.{and_parts};
@@ -26,11 +26,12 @@ pub struct Relaxed {
 
 impl Relaxed {
     /// The relaxed detector of a model.
-    #[tactic(auto, using(crate::proofs::RelaxedLaws::relaxed_lawful, crate::proofs::ReachedDecided::relaxed_decides, crate::proofs::WorkedVerdicts::worked_relaxed_verdicts))]
+    #[tactic(auto, using(crate::proofs::RelaxedLaws::relaxed_lawful, crate::proofs::ReachedDecided::relaxed_decides, crate::proofs::ReachedDecided::relaxed_decides_for_every_model, crate::proofs::WorkedVerdicts::worked_relaxed_verdicts))]
     pub fn new(model: Model) -> Relaxed
         ensures model { relaxed_model result ≡ recorded model }
         ensures lawful { Lawful (relaxed_model result) (relaxed_dead (relaxed_model result)) }
         ensures decides { RelaxedDecides (relaxed_model result) }
+        ensures decides_for_every_model { RelaxedDecidesForEveryModel }
         ensures worked { WorkedRelaxedVerdicts }
     {
         Relaxed { model }

@@ -1,15 +1,12 @@
 -- Containment is an order, and rows with the same entries are equal.
-use Rattle.std.proofs.Common.{◌≡◌, ℕ, ◌<◌, Bool, true, eqb, Some, None, Decides, Option, refl, ap, arith, false}
+use Rattle.std.proofs.Common.{◌≡◌, ℕ, ◌<◌, true, Some, None, Option, refl, ap, arith, false}
 use Rattle.std.proofs.lemmas.Bool.{eq-eqb, eqb-true, false≢true, both_ways}
-use Rattle.std.proofs.lemmas.Bool.Decides.{Decides-like, nat_tests, same_from_decides}
-use Rattle.std.proofs.lemmas.Slice.Eq.{slice_eq-Decides}
-use Rattle.std.specs.Cmp.Lexicographic.{pointwise}
-use Rattle.std.specs.Option.{option_eq}
+use Rattle.std.proofs.lemmas.Bool.Decides.{nat_tests}
 use Rattle.model.specs.declared.row.Row.{Row}
-use Rattle.model.specs.Rows.{at, keeps, contained, same_row, differ, disagree}
+use Rattle.model.specs.Rows.{at, keeps, contained, differ, disagree}
 use Rattle.model.specs.RowLaws.{ContainmentIsReflexive, ContainmentIsTransitive, ContainmentIsAntisymmetric}
 use Rattle.lists.proofs.BelowFacts.{all_below_decides, any_below_decides}
-use Rattle.model.specs.SameRows.{same_entries, row_ext, same_entry_decides, same_row_decides}
+use Rattle.model.specs.SameRows.{row_ext}
 
 -- what containment says, entry by entry
 pub contained_at : (r t : Row) → contained r t ≡ true → (i : ℕ) → i < 32 → keeps (at r i) (at t i) ≡ true
@@ -27,18 +24,6 @@ keeps_trans None b c p q = refl
 keeps_trans (Some v) None c p q = cc
 keeps_trans (Some v) (Some w) None p q = cc
 keeps_trans (Some v) (Some w) (Some x) p q = grind (arith, nat_tests)
-
--- what `==` on the entries tells of the rows
-option_decides : (a b : Option ℕ) → Decides (option_eq eqb a b) (a ≡ b)
-option_decides None None = same_entry_decides None None
-option_decides None (Some w) = same_entry_decides None (Some w)
-option_decides (Some v) None = same_entry_decides (Some v) None
-option_decides (Some v) (Some w) = same_entry_decides (Some v) (Some w)
-
-pub told_same : (answer : Bool) (r t : Row) → answer ≡ pointwise (option_eq eqb) r.entries t.entries → answer ≡ same_row r t
-told_same answer r t told =
-    let entries = slice_eq-Decides option_decides r.entries t.entries answer told in
-    same_from_decides answer (same_row r t) (Decides-like answer (same_entries r t) (ap (λ (x : Row). x.entries)) entries) (same_row_decides r t)
 
 pub contained_reflexive : ContainmentIsReflexive
 unfolding ContainmentIsReflexive

@@ -1,6 +1,6 @@
 //! An entry of a row: a value, or open. Entries are matched, so that each case reads as its rule does.
 ghost use Rattle.std.specs.Prelude.{◌≡◌};
-ghost use Rattle.model.specs.Rows.{keeps, differ};
+ghost use Rattle.model.specs.Rows.{keeps, differ, same_entry};
 ghost use Rattle.model.specs.Moves.{or_else};
 
 /// Whether the second entry is the first, if that is given.
@@ -11,6 +11,17 @@ pub fn entry_kept(mine: Option<u8>, theirs: Option<u8>) -> bool
         (Some(value), Some(found)) => found == value,
         (Some(_), None) => false,
         (None, _) => true,
+    }
+}
+
+/// Whether both entries are open, or give the same value.
+pub(crate) fn entries_same(mine: Option<u8>, theirs: Option<u8>) -> bool
+    ensures { result ≡ same_entry mine theirs }
+{
+    match (mine, theirs) {
+        (Some(value), Some(found)) => value == found,
+        (None, None) => true,
+        _ => false,
     }
 }
 

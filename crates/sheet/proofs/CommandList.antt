@@ -61,7 +61,7 @@ rest_from_next sheet p within =
     l.rest ∙ drop-drop l.by p sheet ∙ ap (λ k. drop k sheet) past
 
 -- the command at a place, and then those from the next place on
-commands_at : (sheet : List ℕ) (p : ℕ) → p < length sheet → commands_from sheet p ≡ item_at p (drop p sheet) ∷ cond (is_fault (item_at p (drop p sheet)).said) [] (commands_from sheet (item_at p (drop p sheet)).next)
+pub commands_at : (sheet : List ℕ) (p : ℕ) → p < length sheet → commands_from sheet p ≡ item_at p (drop p sheet) ∷ cond (is_fault (item_at p (drop p sheet)).said) [] (commands_from sheet (item_at p (drop p sheet)).next)
 unfolding commands_from
 commands_at sheet p within =
     let bs = drop p sheet in

@@ -3,7 +3,7 @@ ghost use Rattle.std.specs.Prelude.{◌≡◌, ◌≤◌, true, map, IfOk, slice
 ghost use Rattle.model.specs.Drafts.{recorded};
 ghost use Rattle.detectors.specs.Operands.{pattern_answer};
 ghost use Rattle.detectors.specs.Patterns.{pattern_model, pattern_variables, chosen_or_refused, carried_or_back, MadeDecides, MadeLawful};
-ghost use Rattle.detectors.specs.PatternMeaning.{product_of_sizes, gives, pattern_dead};
+ghost use Rattle.detectors.specs.PatternMeaning.{product_of_sizes, gives, pattern_dead, PatternDecidesForEveryModel};
 ghost use Rattle.detectors.specs.Cuts.{cut_of, cut_move};
 ghost use Rattle.detectors.specs.CutWalk.{cut_off};
 ghost use Rattle.model.specs.Records.{row_of_model};
@@ -25,7 +25,7 @@ use std::alloc::{AllocError, Global};
 impl Pattern {
     /// The pattern over the variables that the operands give: one to three of the model's, rising, whose sizes multiply to at
     /// most 512; behind them 255, which gives none. With other operands the model is given back.
-    #[tactic(auto, using(crate::proofs::PatternLaws::pattern_lawful, crate::proofs::PatternLaws::pattern_decides, crate::proofs::WorkedVerdicts::worked_pattern_verdicts))]
+    #[tactic(auto, using(crate::proofs::PatternLaws::pattern_lawful, crate::proofs::PatternLaws::pattern_decides, crate::proofs::PatternLaws::pattern_decides_for_every_model, crate::proofs::WorkedVerdicts::worked_pattern_verdicts))]
     pub fn over(
         heap: Global,
         model: Model,
@@ -35,6 +35,7 @@ impl Pattern {
         ensures model { IfOk result (λ a. carried_or_back a ≡ recorded model) }
         ensures lawful { IfOk result MadeLawful }
         ensures decides { IfOk result MadeDecides }
+        ensures decides_for_every_model { PatternDecidesForEveryModel }
         ensures worked { WorkedPatternVerdicts }
     {
         match choose_variables(&model, operands) {

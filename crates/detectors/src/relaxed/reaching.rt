@@ -106,11 +106,18 @@ impl Reached<'_> {
         if known >= 32 {
             return known;
         }
-        let reached = self.count_reached(&m.conditions, known);
+        let reached = self.count_conditions(m, known);
         if reached == 32 {
             self.list_given(&m.effects);
         }
         reached
+    }
+
+    /// How many of the move's first conditions are reached, where so many are known to be.
+    fn count_conditions(&self, m: &Move, known: u8) -> u8
+        ensures { ReachedUpTo (facts self.now) m.now.conditions known result }
+    {
+        self.count_reached(&m.conditions, known)
     }
 
     /// How many of the row's first entries are reached, where so many are known to be.

@@ -5,7 +5,7 @@ ghost use Rattle.model.specs.RowLaws.{ContainmentIsReflexive, ContainmentIsTrans
 ghost use Rattle.model.specs.SameRows.{same_row_laws};
 
 use super::Row;
-use crate::entry::{entries_differ, entry_kept};
+use crate::entry::{entries_differ, entries_same, entry_kept};
 
 impl Row {
     /// The row that gives nothing.
@@ -95,10 +95,12 @@ impl PartialEq for Row {
     }
 }
 
-/// Whether both rows have the same entries.
-#[tactic(auto, using(crate::proofs::Containment::told_same))]
+/// Whether both rows have the same entries. Entry by entry, since `==` on the arrays goes on behind the first that differs.
 fn same_entries(mine: &Row, theirs: &Row) -> bool
     ensures { result ≡ same_row mine.now theirs.now }
 {
-    mine.entries == theirs.entries
+    mine.entries
+        .iter()
+        .zip(&theirs.entries)
+        .all(|(mine, theirs)| entries_same(*mine, *theirs))
 }
